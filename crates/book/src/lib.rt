@@ -1,0 +1,12 @@
+// The order book as far as it is read: its sides, its resting orders, and what any book is by the two lists that it stands for.
+mod methods;
+mod read;
+mod resting;
+mod side;
+mod snapshot;
+
+pub use read::ReadBook;
+pub use resting::Resting;
+pub use side::Side;
+pub use snapshot::Snapshot;
+pub use snapshot::SnapshotReadBook;

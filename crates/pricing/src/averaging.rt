@@ -1,0 +1,38 @@
+// The averaging walk.
+ghost use mathlib.Core.Path.{_≡_};
+ghost use Prim.Native.Nat.{_≤_, _*_};
+ghost use Rattle.book.specs.Sides.{on};
+ghost use Rattle.std.specs.Slices.{found};
+ghost use Rattle.pricing.specs.Walk.{walked};
+use crate::counting::left_out;
+use crate::records::Walked;
+use book::ReadBook;
+use book::Side;
+
+// The largest volume of an order.
+const LARGEST: u32 = 1_000_000;
+
+// What `volume` shares of a side cost, over the orders that count, in priority order. None where the volume is no order's,
+// no order is visible, or the orders that count have fewer shares.
+pub fn walk<B: ReadBook>(book: &B, side: Side, volume: u32) -> Option<Walked>
+    ensures answer { λ r. ⌜ r ≡ walked volume (on side (bids (now (book .entry))) (asks (now (book .entry)))) ⌝ }
+    ensures bound { λ r. ⌜ found r (λ w. w .cost ≤ volume * 4294967295) ⌝ }
+{
+    if volume == 0 || volume > LARGEST {
+        return None;
+    }
+    let mut place = left_out(book, side);
+    let mut wanted = volume as u64;
+    let mut cost = 0;
+    let (cost, last) = loop {
+        let order = book.look(side, place)?;
+        let shares = wanted.min(order.volume as u64);
+        cost += shares * order.limit as u64;
+        if shares == wanted {
+            break (cost, order.limit);
+        }
+        wanted -= shares;
+        place += 1;
+    };
+    Some(Walked { cost, last })
+}

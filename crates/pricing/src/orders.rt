@@ -1,0 +1,33 @@
+// The price of a customer's order.
+ghost use mathlib.Core.Path.{_≡_};
+ghost use Rattle.book.specs.Sides.{on, opposite};
+ghost use Rattle.pricing.specs.Price.{priced};
+use crate::averaging::walk;
+use crate::quoting::quote_price;
+use crate::quoting::round_average;
+use crate::records::Quotation;
+use crate::records::Walked;
+use book::ReadBook;
+use book::Side;
+
+// What the whole order would cost in the book opposite, and what an executor who is better than the rounded average by the
+// relative limit asks or pays for it. None where the walk gives none.
+pub fn price_order<B: ReadBook>(
+    book: &B,
+    customer: Side,
+    volume: u32,
+    relative: u32,
+) -> Option<Quotation>
+    ensures { λ r. ⌜ r ≡ priced (opposite customer) volume relative (on (opposite customer) (bids (now (book .entry))) (asks (now (book .entry)))) ⌝ }
+{
+    let side = customer.opposite();
+    let Walked { cost, last } = walk(book, side, volume)?;
+    let average = round_average(cost, volume);
+    let price = quote_price(side, average, relative);
+    Some(Quotation {
+        cost,
+        last,
+        average,
+        price,
+    })
+}

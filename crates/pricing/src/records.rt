@@ -1,0 +1,24 @@
+// What pricing answers. Limits and prices are whole thousandths of a euro, and so is a cost.
+
+// What the shares of an order cost in the book, and the limit of the last order that they reach.
+#[derive(Clone, Copy, PartialEq, Eq, Debug)]
+pub struct Walked {
+    pub cost: u64,
+    pub last: u32,
+}
+
+// The price of a quote: a whole number of thousandths from 1 on, or that it would be below 1.
+#[derive(Clone, Copy, PartialEq, Eq, Debug)]
+pub enum Price {
+    At(u64),
+    BelowOne,
+}
+
+// What a customer's order would cost in the book, the rounded average, and the executor's price for all of it.
+#[derive(Clone, Copy, PartialEq, Eq, Debug)]
+pub struct Quotation {
+    pub cost: u64,
+    pub last: u32,
+    pub average: u32,
+    pub price: Price,
+}
