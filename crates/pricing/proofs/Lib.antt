@@ -1,2 +1,4 @@
 pub mod LeftOut
+pub mod Prices
+pub mod Shares
 pub mod Walks

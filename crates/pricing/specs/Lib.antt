@@ -1,3 +1,4 @@
 pub mod Counting
 pub mod Walk
 pub mod Price
+pub mod Figures

@@ -1,7 +1,7 @@
 -- The rounded average, the price of a quote, and both of an order against a list.
 use mathlib.Core.Bool.{cond}
 use mathlib.Core.List.{List}
-use Prim.Native.Nat.{ℕ, _+_, _-_, _*_, _/_}
+use Prim.Native.Nat.{ℕ, _+_, _-_, _*_, _/_, _<_, _≤_}
 use lib.Dec.{leb}
 use Rattle.std.specs.Options.{mapped}
 use Rattle.std.specs.declared.option.Option.{Option}
@@ -37,3 +37,14 @@ quotation s q relative w = record {
 -- an order of q shares against the list of side s, with a quote of that side
 abbrev pub priced : Side → (q relative : ℕ) → List Resting → Option Quotation
 priced s q relative os = mapped (quotation s q relative) (walked q os)
+
+-- The rounded average is within half a thousandth of cost divided by shares, and exactly a half only above it.
+abbrev pub Nearest : (cost q average : ℕ) → Type 0
+Nearest cost q average = (2 * (average * q) ≤ 2 * cost + q) × (2 * cost < 2 * (average * q) + q)
+
+-- A price for q shares beats what they cost in the book by at least half a thousandth a share: below it for an ask quote,
+-- at which the customer buys, above it for a bid quote. A price below 1 is none.
+abbrev pub Beats-the-cost : Side → (cost q : ℕ) → Price → Type 0
+Beats-the-cost s cost q BelowOne = Unit {0}
+Beats-the-cost Ask cost q (At p) = (2 * p + 1) * q ≤ 2 * cost
+Beats-the-cost Bid cost q (At p) = 2 * cost ≤ (2 * p - 1) * q

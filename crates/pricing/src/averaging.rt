@@ -3,7 +3,8 @@ ghost use mathlib.Core.Path.{_≡_};
 ghost use Prim.Native.Nat.{_≤_, _*_};
 ghost use Rattle.book.specs.Sides.{on};
 ghost use Rattle.std.specs.Slices.{found};
-ghost use Rattle.pricing.specs.Walk.{walked};
+ghost use Rattle.pricing.specs.Counting.{counting};
+ghost use Rattle.pricing.specs.Walk.{walked, by-share, shares};
 use crate::counting::left_out;
 use crate::records::Walked;
 use book::ReadBook;
@@ -16,6 +17,7 @@ const LARGEST: u32 = 1_000_000;
 // no order is visible, or the orders that count have fewer shares.
 pub fn walk<B: ReadBook>(book: &B, side: Side, volume: u32) -> Option<Walked>
     ensures answer { λ r. ⌜ r ≡ walked volume (on side (bids (now (book .entry))) (asks (now (book .entry)))) ⌝ }
+    ensures meaning { λ r. ⌜ r ≡ by-share volume (shares (counting (on side (bids (now (book .entry))) (asks (now (book .entry)))))) ⌝ }
     ensures bound { λ r. ⌜ found r (λ w. w .cost ≤ volume * 4294967295) ⌝ }
 {
     if volume == 0 || volume > LARGEST {

@@ -1,12 +1,14 @@
 // The price of a quote: the average that a customer's whole order would fetch in the book, and the executor's price from it.
 mod averaging;
 mod counting;
+mod figures;
 mod orders;
 mod quoting;
 mod records;
 
 pub use averaging::walk;
 pub use counting::left_out;
+pub use figures::worked_figures;
 pub use orders::price_order;
 pub use quoting::quote_price;
 pub use records::Price;

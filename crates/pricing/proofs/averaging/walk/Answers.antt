@@ -2,13 +2,14 @@ use mathlib.Core.Path.{_∙_}
 use native.Mathlib.Omega.{arith}
 use Rattle.book.proofs.Looks.{within-looked}
 use Rattle.book.specs.Sides.{on}
-use Rattle.pricing.proofs.Walks.{walked-short, walked-whole, walking-more, bound-more}
+use Rattle.pricing.proofs.Walks.{walked-short, walked-whole, walked-shares, walking-more, bound-more}
 use Rattle.pricing.proofs.averaging.walk.Needs as need
 
 pub returns-in-Break-order : need.returns-in-Break-order
 returns-in-Break-order g c =
     let e = c .from-residual .ensures in
-    record { answer = e ∙ walked-short (c .loop-order .inv) (c .in-Break-order .ensures tt) (omega arith) (omega arith); bound = rw e tt }
+    let short = e ∙ walked-short (c .loop-order .inv) (c .in-Break-order .ensures tt) (omega arith) (omega arith) in
+    record { answer = short; meaning = walked-shares (c .loop-order .inv) short; bound = rw e tt }
 
 pub add-cost : need.add-cost
 add-cost g c =
@@ -33,7 +34,5 @@ loop-order-again g c = walking-more (c .loop-order .inv) (c .in-Continue-order .
 pub returns : need.returns
 returns g c =
     let b = bound-more (c .loop-order .inv) (c .in-Continue-order .order) (c .in-Continue-order .ensures tt) (c .min-shares .result) (c .min-shares .ensures) (omega arith) in
-    record {
-      answer = walked-whole (c .loop-order .inv) (c .in-Continue-order .order) (c .in-Continue-order .ensures tt) (c .min-shares .result) (c .min-shares .ensures) (c .if-shares-wanted .taken) (omega arith) (omega arith);
-      bound = omega arith;
-    }
+    let whole = walked-whole (c .loop-order .inv) (c .in-Continue-order .order) (c .in-Continue-order .ensures tt) (c .min-shares .result) (c .min-shares .ensures) (c .if-shares-wanted .taken) (omega arith) (omega arith) in
+    record { answer = whole; meaning = walked-shares (c .loop-order .inv) whole; bound = omega arith }
