@@ -1,5 +1,4 @@
 // The order book as far as it is read: its sides, its resting orders, and what any book is by the two lists that it stands for.
-mod methods;
 mod read;
 mod resting;
 mod side;

@@ -1,6 +1,7 @@
 // A book that can only be read: two lists that the caller lends.
 ghost use mathlib.Core.Path.{_≡_};
 ghost use denote.Ref.{now};
+ghost use Rattle.std.specs.shelf.Maps.{nth};
 ghost use Rattle.book.specs.Sides.{on};
 use crate::read::ReadBook;
 use crate::resting::Resting;
@@ -23,6 +24,12 @@ impl<'a> Snapshot<'a> {
     }
 }
 
+fn order_at(orders: &[Resting], place: usize) -> Option<Resting>
+    ensures { λ r. ⌜ r ≡ nth (now (orders .entry)) place ⌝ }
+{
+    orders.get(place).copied()
+}
+
 pub impl<'a> ReadBook for Snapshot<'a> as SnapshotReadBook {
     ghost bids = { λ b. now (b .bids) };
 
@@ -33,6 +40,6 @@ pub impl<'a> ReadBook for Snapshot<'a> as SnapshotReadBook {
     }
 
     fn look(&self, side: Side, place: usize) -> Option<Resting> {
-        self.orders(side).get(place).copied()
+        order_at(self.orders(side), place)
     }
 }

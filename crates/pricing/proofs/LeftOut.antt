@@ -2,8 +2,8 @@
 use mathlib.Core.Path.{_≡_, refl, sym, ap, subst}
 use mathlib.Core.Bool.{Bool, true, false, cond, not, _&&_}
 use mathlib.Core.List.{List, [], _∷_}
-use Prim.Native.Nat.{ℕ, suc, _+_, _≤_}
-use native.Mathlib.Numerals.{one-add}
+use Prim.Native.Nat.{ℕ, zero, suc, _+_, _≤_}
+use native.Mathlib.Numerals.{add-one, one-add}
 use native.Mathlib.Omega.{arith}
 use lib.ListN.{length, take, drop}
 use Rattle.std.specs.declared.option.Option.{Option}
@@ -13,13 +13,12 @@ use Rattle.std.specs.shelf.Maps.{nth}
 use Rattle.std.proofs.shelf.Sums.{leading-drop-all}
 use Rattle.std.proofs.shelf.Tests.{and-parts, and-right, cond-both, cond-false}
 use Rattle.std.proofs.shelf.Ways.{tells}
-use Rattle.book.proofs.Looks.{drop-looked}
 use Rattle.book.specs.Priority.{ahead, none-ahead, in-order}
 use Rattle.book.specs.Sides.{better}
 use Rattle.book.specs.declared.resting.Resting.{Resting}
 use Rattle.book.specs.declared.side.Side.{Side}
 use Rattle.book.specs.declared.side.Side.the-variants.{Bid, Ask}
-use Rattle.pricing.specs.Counting.{left-out, better-of, best-visible, better-hidden, Leaves-out-the-better-hidden}
+use Rattle.pricing.specs.Counting.{hidden, left-out, better-of, best-visible, better-hidden, Leaves-out-the-better-hidden}
 
 -- what is not ahead is not better
 not-better : (s : Side) (x o : Resting) → not (ahead s x o) ≡ true → better s (x .limit) (o .limit) ≡ false
@@ -105,18 +104,20 @@ leaves-out s (o ∷ os) h =
 pub leaves-out-at : (s : Side) (os : List Resting) (n : ℕ) → n ≡ left-out os → Leaves-out-the-better-hidden s n os
 leaves-out-at s os n e = rw e (leaves-out s os)
 
+-- one place further
+left-out-at : (os : List Resting) (i : ℕ) → left-out (drop i os) ≡ cond (hidden (nth os i)) (1 + left-out (drop (suc i) os)) 0
+left-out-at [] zero = refl
+left-out-at [] (suc i) = refl
+left-out-at (o ∷ os) zero = refl
+left-out-at (o ∷ os) (suc i) = left-out-at os i
+
 -- a loop over the places, where every order in front of place i is hidden
 module _ (os : List Resting) (i : ℕ) (going : left-out os ≡ i + left-out (drop i os)) where
   pub left-out-all : length os ≤ i → i ≡ left-out os
   left-out-all l = omega (arith, leading-drop-all (λ o. not (o .visible)) os i l)
 
-  module _ (o : Resting) (e : Some o ≡ nth os i) where
-    pub left-out-visible : o .visible ≡ true → i ≡ left-out os
-    left-out-visible v =
-        let d : left-out (drop i os) ≡ 0 = rw (drop-looked os i o e, v) in
-        omega arith
+  pub left-out-ends : hidden (nth os i) ≡ false → i ≡ left-out os
+  left-out-ends h = omega (arith, rw h at (left-out-at os i))
 
-    pub left-out-more : o .visible ≡ false → left-out os ≡ (i + 1) + left-out (drop (i + 1) os)
-    left-out-more v =
-        let d : left-out (drop i os) ≡ 1 + left-out (drop (i + 1) os) = rw (drop-looked os i o e, v) in
-        omega arith
+  pub left-out-more : hidden (nth os i) ≡ true → left-out os ≡ (i + 1) + left-out (drop (i + 1) os)
+  left-out-more h = rw (add-one i) (omega (arith, rw h at (left-out-at os i)))

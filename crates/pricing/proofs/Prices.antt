@@ -6,6 +6,7 @@ use native.Mathlib.Omega.{arith}
 use lib.Dec.{leb}
 use Rattle.book.specs.declared.side.Side.{Side}
 use Rattle.book.specs.declared.side.Side.the-variants.{Bid, Ask}
+use Rattle.std.proofs.shelf.Bits.{div-below}
 use Rattle.std.proofs.shelf.Tests.{cond-both, leb-true}
 use Rattle.pricing.specs.Price.{rounded, from-one, quoted, Nearest, Beats-the-cost}
 
@@ -15,6 +16,10 @@ nearest cost q some =
     let high = lt-div-mul-add {a = 2 * cost + q} {b = 2 * q} (omega arith) in
     let twice = mul-left-comm (rounded cost q) 2 q in
     (omega arith, omega arith)
+
+-- limits of 32 bits have an average of 32 bits
+pub rounded-fits : (cost q : ℕ) → 1 ≤ q → cost ≤ q * 4294967295 → rounded cost q < 4294967296
+rounded-fits cost q some bound = div-below (2 * cost + q) (2 * q) 4294967296 (omega arith) (omega arith)
 
 -- a price at least one below the average, and one at least one above it
 below : (cost q average p : ℕ) → p + 1 ≤ average → Nearest cost q average → (2 * p + 1) * q ≤ 2 * cost

@@ -46,14 +46,15 @@ module _ {q wanted cost i : ℕ} {os : List Resting} (w : Walking q os wanted co
         let p : s * o .limit ≤ s * 4294967295 = mul-le-mul-left s l in
         omega (arith, w .within, w .bound)
 
-    pub walked-whole : s ≡ wanted → 1 ≤ q → q ≤ 1000000 → Some (record { cost = cost + s * o .limit; last = o .limit }) ≡ walked q os
-    walked-whole all l h =
-        let t : leb wanted (o .volume) ≡ true = le-leb wanted (o .volume) (omega arith) in
-        sym (walked-tested l h ∙ rw (drop-looked os i o e, t, all))
+    module _ (sum : ℕ) (added : sum ≡ cost + s * o .limit) where
+      pub walked-whole : s ≡ wanted → 1 ≤ q → q ≤ 1000000 → Some (record { cost = sum; last = o .limit }) ≡ walked q os
+      walked-whole all l h =
+          let t : leb wanted (o .volume) ≡ true = le-leb wanted (o .volume) (omega arith) in
+          sym (walked-tested l h ∙ rw (drop-looked os i o e, t, added, all))
 
-    pub walking-more : (s ≡ wanted → ⊥) → o .limit ≤ 4294967295 → Walking q os (wanted - s) (cost + s * o .limit) (i + 1)
-    walking-more n l =
-        let t : leb wanted (o .volume) ≡ false = lt-leb wanted (o .volume) (omega arith) in
-        let v : s ≡ o .volume = omega arith in
-        let step : covered wanted cost (drop i os) ≡ covered (wanted - s) (cost + s * o .limit) (drop (i + 1) os) = rw (drop-looked os i o e, t, v) in
-        record { gives = sym step ∙ w .gives; within = omega (arith, w .within); bound = bound-more l }
+      pub walking-more : (s ≡ wanted → ⊥) → o .limit ≤ 4294967295 → Walking q os (wanted - s) sum (i + 1)
+      walking-more n l =
+          let t : leb wanted (o .volume) ≡ false = lt-leb wanted (o .volume) (omega arith) in
+          let v : s ≡ o .volume = omega arith in
+          let step : covered wanted cost (drop i os) ≡ covered (wanted - s) sum (drop (i + 1) os) = rw (drop-looked os i o e, t, added, v) in
+          record { gives = sym step ∙ w .gives; within = omega (arith, w .within); bound = rw added (bound-more l) }

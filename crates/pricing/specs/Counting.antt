@@ -1,6 +1,6 @@
 -- Which orders of a side count for the average.
 use mathlib.Core.Path.{_≡_}
-use mathlib.Core.Bool.{Bool, true, cond, not, _&&_}
+use mathlib.Core.Bool.{Bool, true, false, cond, not, _&&_}
 use mathlib.Core.List.{List, [], _∷_}
 use Prim.Native.Nat.{ℕ}
 use lib.ListN.{take, drop}
@@ -11,6 +11,11 @@ use Rattle.book.specs.Priority.{in-order}
 use Rattle.book.specs.Sides.{better}
 use Rattle.book.specs.declared.resting.Resting.{Resting}
 use Rattle.book.specs.declared.side.Side.{Side}
+
+-- of the order at a place, if there is one
+abbrev pub hidden : Option Resting → Bool
+hidden None = false
+hidden (Some o) = not (o .visible)
 
 -- how many hidden orders stand in front of the first visible one
 abbrev pub left-out : List Resting → ℕ

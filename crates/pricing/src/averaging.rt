@@ -1,6 +1,6 @@
 // The averaging walk.
 ghost use mathlib.Core.Path.{_≡_};
-ghost use Prim.Native.Nat.{_≤_, _*_};
+ghost use Prim.Native.Nat.{_+_, _*_, _^_, _<_, _≤_};
 ghost use Rattle.book.specs.Sides.{on};
 ghost use Rattle.std.specs.Slices.{found};
 ghost use Rattle.pricing.specs.Counting.{counting};
@@ -12,6 +12,14 @@ use book::Side;
 
 // The largest volume of an order.
 const LARGEST: u32 = 1_000_000;
+
+// A cost with so many shares more at a limit.
+fn add_shares(cost: u64, shares: u64, limit: u32) -> u64
+    requires { ⌜ cost + shares * limit < 2 ^ 64 ⌝ }
+    ensures { λ r. ⌜ r ≡ cost + shares * limit ⌝ }
+{
+    cost + shares * limit as u64
+}
 
 // What `volume` shares of a side cost, over the orders that count, in priority order. None where the volume is no order's,
 // no order is visible, or the orders that count have fewer shares.
@@ -29,7 +37,7 @@ pub fn walk<B: ReadBook>(book: &B, side: Side, volume: u32) -> Option<Walked>
     let (cost, last) = loop {
         let order = book.look(side, place)?;
         let shares = wanted.min(order.volume as u64);
-        cost += shares * order.limit as u64;
+        cost = add_shares(cost, shares, order.limit);
         if shares == wanted {
             break (cost, order.limit);
         }

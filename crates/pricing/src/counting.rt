@@ -2,10 +2,20 @@
 ghost use mathlib.Core.Path.{_≡_};
 ghost use Prim.Native.Nat.{_<_, _^_};
 ghost use lib.ListN.{length};
+ghost use Rattle.std.specs.shelf.Maps.{nth};
 ghost use Rattle.book.specs.Sides.{on};
-ghost use Rattle.pricing.specs.Counting.{left-out, Leaves-out-the-better-hidden};
+ghost use Rattle.pricing.specs.Counting.{hidden, left-out, Leaves-out-the-better-hidden};
 use book::ReadBook;
 use book::Side;
+
+fn is_hidden<B: ReadBook>(book: &B, side: Side, place: usize) -> bool
+    ensures { λ r. ⌜ r ≡ hidden (nth (on side (bids (now (book .entry))) (asks (now (book .entry)))) place) ⌝ }
+{
+    match book.look(side, place) {
+        Some(order) => !order.visible,
+        None => false,
+    }
+}
 
 // How many hidden orders stand in front of the first visible one. They are left out of the average.
 pub fn left_out<B: ReadBook>(book: &B, side: Side) -> usize
@@ -14,13 +24,9 @@ pub fn left_out<B: ReadBook>(book: &B, side: Side) -> usize
     ensures countable { λ _. ⌜ length (on side (bids (now (book .entry))) (asks (now (book .entry)))) < 2 ^ 64 ⌝ }
 {
     let count = book.count(side);
-    for place in 0..count {
-        let Some(order) = book.look(side, place) else {
-            return place;
-        };
-        if order.visible {
-            return place;
-        }
+    let mut place = 0;
+    while place < count && is_hidden(book, side, place) {
+        place += 1;
     }
-    count
+    place
 }

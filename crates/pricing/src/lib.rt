@@ -5,6 +5,8 @@ mod figures;
 mod orders;
 mod quoting;
 mod records;
+#[cfg(test)]
+mod tests;
 
 pub use averaging::walk;
 pub use counting::left_out;

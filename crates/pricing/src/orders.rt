@@ -5,10 +5,8 @@ ghost use Rattle.book.specs.Sides.{on, opposite};
 ghost use Rattle.std.specs.Slices.{found};
 ghost use Rattle.pricing.specs.Price.{priced, Nearest, Beats-the-cost};
 use crate::averaging::walk;
-use crate::quoting::quote_price;
-use crate::quoting::round_average;
+use crate::quoting::quote_walked;
 use crate::records::Quotation;
-use crate::records::Walked;
 use book::ReadBook;
 use book::Side;
 
@@ -25,13 +23,6 @@ pub fn price_order<B: ReadBook>(
     ensures better { λ r. ⌜ (1 ≤ relative → found r (λ t. Beats-the-cost (opposite customer) (t .cost) volume (t .price))) ⌝ }
 {
     let side = customer.opposite();
-    let Walked { cost, last } = walk(book, side, volume)?;
-    let average = round_average(cost, volume);
-    let price = quote_price(side, average, relative);
-    Some(Quotation {
-        cost,
-        last,
-        average,
-        price,
-    })
+    let walked = walk(book, side, volume)?;
+    Some(quote_walked(side, walked, volume, relative))
 }

@@ -8,14 +8,14 @@ pub struct Walked {
 }
 
 // The price of a quote: a whole number of thousandths from 1 on, or that it would be below 1.
-#[derive(Clone, Copy, PartialEq, Eq, Debug)]
+#[derive(Clone, Copy)]
 pub enum Price {
     At(u64),
     BelowOne,
 }
 
 // What a customer's order would cost in the book, the rounded average, and the executor's price for all of it.
-#[derive(Clone, Copy, PartialEq, Eq, Debug)]
+#[derive(Clone, Copy)]
 pub struct Quotation {
     pub cost: u64,
     pub last: u32,

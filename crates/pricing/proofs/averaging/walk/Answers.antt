@@ -11,8 +11,8 @@ returns-in-Break-order g c =
     let short = e ∙ walked-short (c .loop-order .inv) (c .in-Break-order .ensures tt) (omega arith) (omega arith) in
     record { answer = short; meaning = walked-shares (c .loop-order .inv) short; bound = rw e tt }
 
-pub add-cost : need.add-cost
-add-cost g c =
+pub add-shares-cost-requires : need.add-shares-cost-requires
+add-shares-cost-requires g c κs =
     let b = bound-more (c .loop-order .inv) (c .in-Continue-order .order) (c .in-Continue-order .ensures tt) (c .min-shares .result) (c .min-shares .ensures) (omega arith) in
     omega arith
 
@@ -29,10 +29,14 @@ loop-order-less g c =
     omega arith
 
 pub loop-order-again : need.loop-order-again
-loop-order-again g c = walking-more (c .loop-order .inv) (c .in-Continue-order .order) (c .in-Continue-order .ensures tt) (c .min-shares .result) (c .min-shares .ensures) (c .if-shares-wanted .left) (omega arith)
+loop-order-again g c =
+    walking-more (c .loop-order .inv) (c .in-Continue-order .order) (c .in-Continue-order .ensures tt) (c .min-shares .result) (c .min-shares .ensures)
+    (c .add-shares-cost .result) (c .add-shares-cost .ensures) (c .if-shares-wanted .left) (omega arith)
 
 pub returns : need.returns
 returns g c =
     let b = bound-more (c .loop-order .inv) (c .in-Continue-order .order) (c .in-Continue-order .ensures tt) (c .min-shares .result) (c .min-shares .ensures) (omega arith) in
-    let whole = walked-whole (c .loop-order .inv) (c .in-Continue-order .order) (c .in-Continue-order .ensures tt) (c .min-shares .result) (c .min-shares .ensures) (c .if-shares-wanted .taken) (omega arith) (omega arith) in
+    let whole =
+    walked-whole (c .loop-order .inv) (c .in-Continue-order .order) (c .in-Continue-order .ensures tt) (c .min-shares .result) (c .min-shares .ensures)
+    (c .add-shares-cost .result) (c .add-shares-cost .ensures) (c .if-shares-wanted .taken) (omega arith) (omega arith) in
     record { answer = whole; meaning = walked-shares (c .loop-order .inv) whole; bound = omega arith }

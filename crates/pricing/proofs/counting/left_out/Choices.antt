@@ -1,5 +1,5 @@
 use mathlib.Core.Path.{_≡_}
-use Prim.Native.Nat.{_+_}
+use Prim.Native.Nat.{_+_, _-_}
 use lib.ListN.{drop}
 use Rattle.book.specs.Sides.{on}
 use Rattle.pricing.specs.Counting.{left-out}
@@ -10,3 +10,6 @@ abbrev pub Inv-loop-place : given.InvT-loop-place
 Inv-loop-place g l =
     let os = on (l .side) (g .B·ReadBook .bids (l .book)) (g .B·ReadBook .asks (l .book)) in
     left-out os ≡ l .place + left-out (drop (l .place) os)
+
+abbrev pub μ-loop-place : given.MeasureT-loop-place
+μ-loop-place g l = l .count - l .place
