@@ -7,6 +7,7 @@ use book::Resting;
 use book::Side;
 use book::Snapshot;
 use book::SnapshotReadBook;
+use book::worked_priorities;
 use euro::Euro;
 use euro::EuroDisplay;
 use pricing::Price;
@@ -126,8 +127,9 @@ fn run(rt: &LibcRuntime) -> Result<(), AnyError> {
     print_fill(rt, &book)?;
     println!(
         rt,
-        "Figures worked by hand that are proved of the same rules: {}.",
-        worked_figures()
+        "Worked by hand, and proved of the same rules: {} prices, {} priorities.",
+        worked_figures(),
+        worked_priorities()
     )?;
     Ok(())
 }

@@ -1,2 +1,4 @@
 pub mod Sides
 pub mod Priority
+pub mod Priorities
+pub mod Listed

@@ -1,8 +1,7 @@
 -- Priority on a side of a book.
-use mathlib.Core.Path.{_≡_}
 use mathlib.Core.Bool.{Bool, true, false, cond, not, _&&_}
 use mathlib.Core.List.{List, [], _∷_}
-use lib.Dec.{eqb, ltb}
+use lib.Dec.{ltb}
 use Rattle.book.specs.Sides.{better}
 use Rattle.book.specs.declared.side.Side.{Side}
 use Rattle.book.specs.declared.resting.Resting.{Resting}

@@ -1,6 +1,6 @@
 -- What the rounding and the relative limit come to.
 use mathlib.Core.Path.{_≡_, ap}
-use Prim.Native.Nat.{ℕ, _+_, _-_, _*_, _/_, _<_, _≤_}
+use Prim.Native.Nat.{ℕ, _+_, _-_, _*_, _<_, _≤_}
 use native.Mathlib.Nat.{add-mul, div-mul-le-self, lt-div-mul-add, mul-assoc, mul-le-mul-right, mul-left-comm}
 use native.Mathlib.Omega.{arith}
 use lib.Dec.{leb}
@@ -8,7 +8,7 @@ use Rattle.book.specs.declared.side.Side.{Side}
 use Rattle.book.specs.declared.side.Side.the-variants.{Bid, Ask}
 use Rattle.std.proofs.shelf.Bits.{div-below}
 use Rattle.std.proofs.shelf.Tests.{cond-both, leb-true}
-use Rattle.pricing.specs.Price.{rounded, from-one, quoted, Nearest, Beats-the-cost}
+use Rattle.pricing.specs.Price.{rounded, quoted, Nearest, Beats-the-cost}
 
 pub nearest : (cost q : ℕ) → 1 ≤ q → Nearest cost q (rounded cost q)
 nearest cost q some =

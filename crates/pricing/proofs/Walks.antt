@@ -1,18 +1,18 @@
 -- The turns of the averaging walk, over any list.
 use mathlib.Core.Path.{_≡_, sym, ap, _∙_}
 use mathlib.Core.Bool.{true, false}
-use mathlib.Core.List.{List, _∷_}
-use Prim.Native.Nat.{ℕ, _+_, _-_, _*_, _≤_, min}
+use mathlib.Core.List.{List}
+use Prim.Native.Nat.{ℕ, _+_, _-_, _*_, _<_, _≤_, min}
 use native.Mathlib.Nat.{mul-le-mul-left}
 use native.Mathlib.Omega.{arith}
 use lib.Dec.{leb}
-use lib.ListN.{drop}
+use lib.ListN.{length, drop}
 use Rattle.std.specs.declared.option.Option.{Option}
 use Rattle.std.specs.declared.option.Option.the-variants.{Some, None}
 use Rattle.std.specs.shelf.Maps.{nth}
 use Rattle.std.proofs.shelf.Lists.{drop-all}
 use Rattle.std.proofs.shelf.Tests.{le-leb, lt-leb}
-use Rattle.book.proofs.Looks.{drop-looked, past-looked}
+use Rattle.book.proofs.Looks.{drop-looked, past-looked, within-looked}
 use Rattle.book.specs.declared.resting.Resting.{Resting}
 use Rattle.pricing.proofs.Shares.{walked-by-share}
 use Rattle.pricing.specs.Counting.{counting}
@@ -39,14 +39,17 @@ module _ {q wanted cost i : ℕ} {os : List Resting} (w : Walking q os wanted co
   pub walked-short : None ≡ nth os i → 1 ≤ q → q ≤ 1000000 → None ≡ walked q os
   walked-short e l h = sym (walked-tested l h ∙ ap (covered wanted cost) (drop-all i os (past-looked os i e)))
 
-  module _ (o : Resting) (e : Some o ≡ nth os i) (s : ℕ) (m : s ≡ min wanted (o .volume)) where
+  module _ {o : Resting} {s : ℕ} (e : Some o ≡ nth os i) (m : s ≡ min wanted (o .volume)) where
+    pub place-within : i < length os
+    place-within = within-looked os i o e
+
     -- the shares taken of one order cost no more than so many at the largest limit
     pub bound-more : o .limit ≤ 4294967295 → cost + s * o .limit ≤ (q - (wanted - s)) * 4294967295
     bound-more l =
         let p : s * o .limit ≤ s * 4294967295 = mul-le-mul-left s l in
         omega (arith, w .within, w .bound)
 
-    module _ (sum : ℕ) (added : sum ≡ cost + s * o .limit) where
+    module _ {sum : ℕ} (added : sum ≡ cost + s * o .limit) where
       pub walked-whole : s ≡ wanted → 1 ≤ q → q ≤ 1000000 → Some (record { cost = sum; last = o .limit }) ≡ walked q os
       walked-whole all l h =
           let t : leb wanted (o .volume) ≡ true = le-leb wanted (o .volume) (omega arith) in

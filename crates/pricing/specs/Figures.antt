@@ -1,9 +1,8 @@
 -- Figures worked by hand from the rules, each against what the definitions reckon.
 use mathlib.Core.Path.{_≡_}
-use mathlib.Core.Bool.{Bool, true, false}
+use mathlib.Core.Bool.{true, false}
 use mathlib.Core.List.{List, [], _∷_, map}
 use Prim.Native.Nat.{ℕ}
-use Rattle.std.specs.declared.option.Option.{Option}
 use Rattle.std.specs.declared.option.Option.the-variants.{Some}
 use Rattle.book.specs.Sides.{opposite}
 use Rattle.book.specs.declared.resting.Resting.{Resting}

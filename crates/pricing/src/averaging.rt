@@ -1,7 +1,7 @@
 // The averaging walk.
 ghost use mathlib.Core.Path.{_≡_};
 ghost use Prim.Native.Nat.{_+_, _*_, _^_, _<_, _≤_};
-ghost use Rattle.book.specs.Sides.{on};
+ghost use Rattle.book.specs.Listed.{listed};
 ghost use Rattle.std.specs.Slices.{found};
 ghost use Rattle.pricing.specs.Counting.{counting};
 ghost use Rattle.pricing.specs.Walk.{walked, by-share, shares};
@@ -24,8 +24,8 @@ fn add_shares(cost: u64, shares: u64, limit: u32) -> u64
 // What `volume` shares of a side cost, over the orders that count, in priority order. None where the volume is no order's,
 // no order is visible, or the orders that count have fewer shares.
 pub fn walk<B: ReadBook>(book: &B, side: Side, volume: u32) -> Option<Walked>
-    ensures answer { λ r. ⌜ r ≡ walked volume (on side (bids (now (book .entry))) (asks (now (book .entry)))) ⌝ }
-    ensures meaning { λ r. ⌜ r ≡ by-share volume (shares (counting (on side (bids (now (book .entry))) (asks (now (book .entry)))))) ⌝ }
+    ensures answer { λ r. ⌜ r ≡ walked volume (listed B·ReadBook side (now (book .entry))) ⌝ }
+    ensures meaning { λ r. ⌜ r ≡ by-share volume (shares (counting (listed B·ReadBook side (now (book .entry))))) ⌝ }
     ensures bound { λ r. ⌜ found r (λ w. w .cost ≤ volume * 4294967295) ⌝ }
 {
     if volume == 0 || volume > LARGEST {

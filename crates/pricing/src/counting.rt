@@ -3,13 +3,13 @@ ghost use mathlib.Core.Path.{_≡_};
 ghost use Prim.Native.Nat.{_<_, _^_};
 ghost use lib.ListN.{length};
 ghost use Rattle.std.specs.shelf.Maps.{nth};
-ghost use Rattle.book.specs.Sides.{on};
+ghost use Rattle.book.specs.Listed.{listed};
 ghost use Rattle.pricing.specs.Counting.{hidden, left-out, Leaves-out-the-better-hidden};
 use book::ReadBook;
 use book::Side;
 
 fn is_hidden<B: ReadBook>(book: &B, side: Side, place: usize) -> bool
-    ensures { λ r. ⌜ r ≡ hidden (nth (on side (bids (now (book .entry))) (asks (now (book .entry)))) place) ⌝ }
+    ensures { λ r. ⌜ r ≡ hidden (nth (listed B·ReadBook side (now (book .entry))) place) ⌝ }
 {
     match book.look(side, place) {
         Some(order) => !order.visible,
@@ -18,10 +18,11 @@ fn is_hidden<B: ReadBook>(book: &B, side: Side, place: usize) -> bool
 }
 
 // How many hidden orders stand in front of the first visible one. They are left out of the average.
+// (`countable`: a `usize` counts the places, which whoever goes over them needs to know.)
 pub fn left_out<B: ReadBook>(book: &B, side: Side) -> usize
-    ensures answer { λ r. ⌜ r ≡ left-out (on side (bids (now (book .entry))) (asks (now (book .entry)))) ⌝ }
-    ensures meaning { λ r. ⌜ Leaves-out-the-better-hidden side r (on side (bids (now (book .entry))) (asks (now (book .entry)))) ⌝ }
-    ensures countable { λ _. ⌜ length (on side (bids (now (book .entry))) (asks (now (book .entry)))) < 2 ^ 64 ⌝ }
+    ensures answer { λ r. ⌜ r ≡ left-out (listed B·ReadBook side (now (book .entry))) ⌝ }
+    ensures meaning { λ r. ⌜ Leaves-out-the-better-hidden side r (listed B·ReadBook side (now (book .entry))) ⌝ }
+    ensures countable { λ _. ⌜ length (listed B·ReadBook side (now (book .entry))) < 2 ^ 64 ⌝ }
 {
     let count = book.count(side);
     let mut place = 0;

@@ -1,7 +1,8 @@
 // The price of a customer's order.
 ghost use mathlib.Core.Path.{_≡_};
 ghost use Prim.Native.Nat.{_≤_};
-ghost use Rattle.book.specs.Sides.{on, opposite};
+ghost use Rattle.book.specs.Listed.{listed};
+ghost use Rattle.book.specs.Sides.{opposite};
 ghost use Rattle.std.specs.Slices.{found};
 ghost use Rattle.pricing.specs.Price.{priced, Nearest, Beats-the-cost};
 use crate::averaging::walk;
@@ -18,7 +19,7 @@ pub fn price_order<B: ReadBook>(
     volume: u32,
     relative: u32,
 ) -> Option<Quotation>
-    ensures answer { λ r. ⌜ r ≡ priced (opposite customer) volume relative (on (opposite customer) (bids (now (book .entry))) (asks (now (book .entry)))) ⌝ }
+    ensures answer { λ r. ⌜ r ≡ priced (opposite customer) volume relative (listed B·ReadBook (opposite customer) (now (book .entry))) ⌝ }
     ensures nearest { λ r. ⌜ found r (λ t. Nearest (t .cost) volume (t .average)) ⌝ }
     ensures better { λ r. ⌜ (1 ≤ relative → found r (λ t. Beats-the-cost (opposite customer) (t .cost) volume (t .price))) ⌝ }
 {

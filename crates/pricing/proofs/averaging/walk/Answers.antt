@@ -1,42 +1,40 @@
 use mathlib.Core.Path.{_∙_}
 use native.Mathlib.Omega.{arith}
-use Rattle.book.proofs.Looks.{within-looked}
-use Rattle.book.specs.Sides.{on}
-use Rattle.pricing.proofs.Walks.{walked-short, walked-whole, walked-shares, walking-more, bound-more}
+use Rattle.book.specs.Listed.{listed}
+use Rattle.pricing.proofs.Walks.{walked-short, walked-whole, walked-shares, walking-more, bound-more, place-within}
 use Rattle.pricing.proofs.averaging.walk.Needs as need
 
 pub returns-in-Break-order : need.returns-in-Break-order
 returns-in-Break-order g c =
     let e = c .from-residual .ensures in
-    let short = e ∙ walked-short (c .loop-order .inv) (c .in-Break-order .ensures tt) (omega arith) (omega arith) in
-    record { answer = short; meaning = walked-shares (c .loop-order .inv) short; bound = rw e tt }
+    let os = listed (g .B·ReadBook) (c .args .side) (c .args .book .now) in
+    let short = e ∙ walked-short {os = os} (c .loop-order .inv) (c .in-Break-order .ensures tt) (omega arith) (omega arith) in
+    record { answer = short; meaning = walked-shares {os = os} (c .loop-order .inv) short; bound = rw e tt }
 
 pub add-shares-cost-requires : need.add-shares-cost-requires
 add-shares-cost-requires g c κs =
-    let b = bound-more (c .loop-order .inv) (c .in-Continue-order .order) (c .in-Continue-order .ensures tt) (c .min-shares .result) (c .min-shares .ensures) (omega arith) in
+    let b = bound-more (c .loop-order .inv) (c .in-Continue-order .ensures tt) (c .min-shares .ensures) (omega arith) in
     omega arith
 
 pub add-place : need.add-place
 add-place g c =
-    let os = on (c .args .side) (g .B·ReadBook .bids (c .args .book .now)) (g .B·ReadBook .asks (c .args .book .now)) in
-    let l = within-looked os (c .loop-order .place) (c .in-Continue-order .order) (c .in-Continue-order .ensures tt) in
+    let l = place-within (c .loop-order .inv) (c .in-Continue-order .ensures tt) (c .min-shares .ensures) in
     omega arith
 
 pub loop-order-less : need.loop-order-less
 loop-order-less g c =
-    let os = on (c .args .side) (g .B·ReadBook .bids (c .args .book .now)) (g .B·ReadBook .asks (c .args .book .now)) in
-    let l = within-looked os (c .loop-order .place) (c .in-Continue-order .order) (c .in-Continue-order .ensures tt) in
+    let l = place-within (c .loop-order .inv) (c .in-Continue-order .ensures tt) (c .min-shares .ensures) in
     omega arith
 
 pub loop-order-again : need.loop-order-again
 loop-order-again g c =
-    walking-more (c .loop-order .inv) (c .in-Continue-order .order) (c .in-Continue-order .ensures tt) (c .min-shares .result) (c .min-shares .ensures)
-    (c .add-shares-cost .result) (c .add-shares-cost .ensures) (c .if-shares-wanted .left) (omega arith)
+    walking-more (c .loop-order .inv) (c .in-Continue-order .ensures tt) (c .min-shares .ensures)
+    (c .add-shares-cost .ensures) (c .if-shares-wanted .left) (omega arith)
 
 pub returns : need.returns
 returns g c =
-    let b = bound-more (c .loop-order .inv) (c .in-Continue-order .order) (c .in-Continue-order .ensures tt) (c .min-shares .result) (c .min-shares .ensures) (omega arith) in
+    let b = bound-more (c .loop-order .inv) (c .in-Continue-order .ensures tt) (c .min-shares .ensures) (omega arith) in
     let whole =
-    walked-whole (c .loop-order .inv) (c .in-Continue-order .order) (c .in-Continue-order .ensures tt) (c .min-shares .result) (c .min-shares .ensures)
-    (c .add-shares-cost .result) (c .add-shares-cost .ensures) (c .if-shares-wanted .taken) (omega arith) (omega arith) in
+    walked-whole (c .loop-order .inv) (c .in-Continue-order .ensures tt) (c .min-shares .ensures)
+    (c .add-shares-cost .ensures) (c .if-shares-wanted .taken) (omega arith) (omega arith) in
     record { answer = whole; meaning = walked-shares (c .loop-order .inv) whole; bound = omega arith }

@@ -1,12 +1,12 @@
 use Prim.Native.Nat.{_-_}
 use lib.ListN.{length}
-use Rattle.book.specs.Sides.{on}
+use Rattle.book.specs.Listed.{listed}
 use Rattle.pricing.proofs.Walks.{Walking}
 use Rattle.pricing.proofs.averaging.walk.Given as given
 
 abbrev pub Inv-loop-order : given.InvT-loop-order
 Inv-loop-order g l =
-    Walking (l .volume) (on (l .side) (g .B·ReadBook .bids (l .book)) (g .B·ReadBook .asks (l .book))) (l .wanted) (l .cost) (l .place)
+    Walking (l .volume) (listed (g .B·ReadBook) (l .side) (l .book)) (l .wanted) (l .cost) (l .place)
 
 abbrev pub μ-loop-order : given.MeasureT-loop-order
-μ-loop-order g l = length (on (l .side) (g .B·ReadBook .bids (l .book)) (g .B·ReadBook .asks (l .book))) - l .place
+μ-loop-order g l = length (listed (g .B·ReadBook) (l .side) (l .book)) - l .place
