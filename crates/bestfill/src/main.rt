@@ -63,26 +63,26 @@ fn print_sweep<B: ReadBook>(rt: &LibcRuntime, book: &B, price: u64) -> Result<()
 }
 
 fn print_fill<B: ReadBook>(rt: &LibcRuntime, book: &B) -> Result<(), AnyError> {
-    let Some(told) = price_order(book, Side::Bid, VOLUME, RELATIVE) else {
+    let Some(quotation) = price_order(book, Side::Bid, VOLUME, RELATIVE) else {
         return Err("the book has no average for the order".into());
     };
-    let Price::At(price) = told.price else {
+    let Price::At(price) = quotation.price else {
         return Err("the price would be below 0.001".into());
     };
-    let average = ten_thousandths(told.cost, VOLUME).ok_or("the average does not fit")?;
-    let gained = gain(told.cost, VOLUME, price).ok_or("the price is no gain")?;
-    let rounded = Euro(told.average as u64);
+    let exact = ten_thousandths(quotation.cost, VOLUME).ok_or("the average does not fit")?;
+    let gained = gain(quotation.cost, VOLUME, price).ok_or("the price is worse than the book")?;
+    let rounded = Euro(quotation.average as u64);
     println!(
         rt,
         "In the book they would cost {}, the last of them at {}.",
-        Euro(told.cost),
-        Euro(told.last as u64)
+        Euro(quotation.cost),
+        Euro(quotation.last as u64)
     )?;
     println!(
         rt,
         "On average that is {}{}, rounded {rounded}.",
-        Euro(average / 10),
-        average % 10
+        Euro(exact / 10),
+        exact % 10
     )?;
     println!(
         rt,
@@ -127,7 +127,7 @@ fn run(rt: &LibcRuntime) -> Result<(), AnyError> {
     print_fill(rt, &book)?;
     println!(
         rt,
-        "Worked by hand, and proved of the same rules: {} prices, {} priorities.",
+        "Worked by hand, and proved of the same rules: {} figures, {} priorities.",
         worked_figures(),
         worked_priorities()
     )?;

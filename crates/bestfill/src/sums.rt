@@ -12,7 +12,7 @@ pub fn ten_thousandths(cost: u64, volume: u32) -> Option<u64>
     cost.checked_mul(10)?.checked_div(volume as u64)
 }
 
-// What a buying customer saves at the price against the cost in the book. None where the price is no better.
+// What a buying customer saves at the price against the cost in the book. None where the price is worse.
 pub fn gain(cost: u64, volume: u32, price: u64) -> Option<u64>
     ensures { λ r. ⌜ r ≡ cond (leb (price * volume) cost) (Some (cost - price * volume)) None ⌝ }
 {

@@ -24,7 +24,7 @@ module _ {X : Type 0} (xs : List X) (i : ℕ) where
   pub within-looked : (x : X) → Some x ≡ nth xs i → i < length xs
   within-looked x e = elim (cases-lt i (length xs)) [ inl l ↦ l | inr p ↦ absurd (grind (arith, nth-past xs i p)) ]
 
-  pub getD-looked : (x : X) → Some x ≡ nth xs i → getD xs i x ≡ x
+  getD-looked : (x : X) → Some x ≡ nth xs i → getD xs i x ≡ x
   getD-looked x e = let l = within-looked x e in grind (arith, nth-getD xs i x l)
 
   -- an order that was looked at is the first of what is left from its place on

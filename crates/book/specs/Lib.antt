@@ -1,4 +1,5 @@
 pub mod Sides
 pub mod Priority
+pub mod Samples
 pub mod Priorities
 pub mod Listed

@@ -14,9 +14,8 @@ use Rattle.std.proofs.shelf.Lists.{drop-all}
 use Rattle.std.proofs.shelf.Tests.{le-leb, lt-leb}
 use Rattle.book.proofs.Looks.{drop-looked, past-looked, within-looked}
 use Rattle.book.specs.declared.resting.Resting.{Resting}
-use Rattle.pricing.proofs.Shares.{walked-by-share}
 use Rattle.pricing.specs.Counting.{counting}
-use Rattle.pricing.specs.Walk.{covered, walked, shares, by-share}
+use Rattle.pricing.specs.Walk.{covered, walked}
 use Rattle.pricing.specs.declared.records.Walked.{Walked}
 
 -- What holds at place i, with `wanted` of the q shares still to walk: what is left of the list gives what all of it gives,
@@ -32,9 +31,6 @@ module _ {q wanted cost i : ℕ} {os : List Resting} (w : Walking q os wanted co
       let t : leb 1 q ≡ true = le-leb 1 q l in
       let u : leb q 1000000 ≡ true = le-leb q 1000000 h in
       rw (t, u) (sym (w .gives))
-
-  pub walked-shares : {r : Option Walked} → r ≡ walked q os → r ≡ by-share q (shares (counting os))
-  walked-shares e = e ∙ walked-by-share q os
 
   pub walked-short : None ≡ nth os i → 1 ≤ q → q ≤ 1000000 → None ≡ walked q os
   walked-short e l h = sym (walked-tested l h ∙ ap (covered wanted cost) (drop-all i os (past-looked os i e)))

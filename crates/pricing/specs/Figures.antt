@@ -1,9 +1,9 @@
 -- Figures worked by hand from the rules, each against what the definitions reckon.
 use mathlib.Core.Path.{_≡_}
-use mathlib.Core.Bool.{true, false}
 use mathlib.Core.List.{List, [], _∷_, map}
 use Prim.Native.Nat.{ℕ}
 use Rattle.std.specs.declared.option.Option.the-variants.{Some}
+use Rattle.book.specs.Samples.{shown, unseen}
 use Rattle.book.specs.Sides.{opposite}
 use Rattle.book.specs.declared.resting.Resting.{Resting}
 use Rattle.book.specs.declared.side.Side.{Side}
@@ -20,12 +20,6 @@ pub record Figure : Type 0 where
   pub relative : ℕ
   pub against : List Resting
   pub told : Quotation
-
-abbrev shown : (number volume limit : ℕ) → Resting
-shown n v l = record { number = n; member = 40; limit = l; volume = v; visible = true }
-
-abbrev unseen : (number volume limit : ℕ) → Resting
-unseen n v l = record { number = n; member = 40; limit = l; volume = v; visible = false }
 
 abbrev told : (cost last average : ℕ) → Price → Quotation
 told c l a p = record { cost = c; last = l; average = a; price = p }

@@ -42,7 +42,7 @@ priced s q relative os = mapped (quotation s q relative) (walked q os)
 abbrev pub Nearest : (cost q average : ℕ) → Type 0
 Nearest cost q average = (2 * (average * q) ≤ 2 * cost + q) × (2 * cost < 2 * (average * q) + q)
 
--- A price for q shares beats what they cost in the book by at least half a thousandth a share: below it for an ask quote,
+-- A price for q shares beats what they cost over the orders that count by at least half a thousandth a share: below it for an ask quote,
 -- at which the customer buys, above it for a bid quote. A price below 1 is none.
 abbrev pub Beats-the-cost : Side → (cost q : ℕ) → Price → Type 0
 Beats-the-cost s cost q BelowOne = Unit {0}

@@ -21,7 +21,7 @@ fn add_shares(cost: u64, shares: u64, limit: u32) -> u64
     cost + shares * limit as u64
 }
 
-// What `volume` shares of a side cost, over the orders that count, in priority order. None where the volume is no order's,
+// What `volume` shares of a side cost, over the orders that count, in their order. None where the volume is no order's,
 // no order is visible, or the orders that count have fewer shares.
 pub fn walk<B: ReadBook>(book: &B, side: Side, volume: u32) -> Option<Walked>
     ensures answer { λ r. ⌜ r ≡ walked volume (listed B·ReadBook side (now (book .entry))) ⌝ }

@@ -18,7 +18,7 @@ fn is_hidden<B: ReadBook>(book: &B, side: Side, place: usize) -> bool
 }
 
 // How many hidden orders stand in front of the first visible one. They are left out of the average.
-// (`countable`: a `usize` counts the places, which whoever goes over them needs to know.)
+// `countable`: a caller that goes over the places in a `usize` needs it.
 pub fn left_out<B: ReadBook>(book: &B, side: Side) -> usize
     ensures answer { λ r. ⌜ r ≡ left-out (listed B·ReadBook side (now (book .entry))) ⌝ }
     ensures meaning { λ r. ⌜ Leaves-out-the-better-hidden side r (listed B·ReadBook side (now (book .entry))) ⌝ }

@@ -1,8 +1,9 @@
-// The price of a quote: the average that a customer's whole order would fetch in the book, and the executor's price from it.
+// The price of a quote: the average that a customer's whole order would fetch over the orders that count, and the executor's
+// price from it.
 mod averaging;
 mod counting;
+mod customer;
 mod figures;
-mod orders;
 mod quoting;
 mod records;
 #[cfg(test)]
@@ -10,8 +11,8 @@ mod tests;
 
 pub use averaging::walk;
 pub use counting::left_out;
+pub use customer::price_order;
 pub use figures::worked_figures;
-pub use orders::price_order;
 pub use quoting::quote_price;
 pub use records::Price;
 pub use records::Quotation;

@@ -1,6 +1,6 @@
 // What pricing answers. Limits and prices are whole thousandths of a euro, and so is a cost.
 
-// What the shares of an order cost in the book, and the limit of the last order that they reach.
+// What the shares of an order cost over the orders that count, and the limit of the last order that they reach.
 #[derive(Clone, Copy, PartialEq, Eq, Debug)]
 pub struct Walked {
     pub cost: u64,
@@ -14,7 +14,8 @@ pub enum Price {
     BelowOne,
 }
 
-// What a customer's order would cost in the book, the rounded average, and the executor's price for all of it.
+// What a customer's order would cost over the orders that count, the limit of the last order that it reaches, the rounded
+// average, and the executor's price a share.
 #[derive(Clone, Copy)]
 pub struct Quotation {
     pub cost: u64,

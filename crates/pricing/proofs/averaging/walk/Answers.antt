@@ -1,7 +1,8 @@
 use mathlib.Core.Path.{_∙_}
 use native.Mathlib.Omega.{arith}
 use Rattle.book.specs.Listed.{listed}
-use Rattle.pricing.proofs.Walks.{walked-short, walked-whole, walked-shares, walking-more, bound-more, place-within}
+use Rattle.pricing.proofs.Shares.{walked-by-share}
+use Rattle.pricing.proofs.Walks.{walked-short, walked-whole, walking-more, bound-more, place-within}
 use Rattle.pricing.proofs.averaging.walk.Needs as need
 
 pub returns-in-Break-order : need.returns-in-Break-order
@@ -9,7 +10,7 @@ returns-in-Break-order g c =
     let e = c .from-residual .ensures in
     let os = listed (g .B·ReadBook) (c .args .side) (c .args .book .now) in
     let short = e ∙ walked-short {os = os} (c .loop-order .inv) (c .in-Break-order .ensures tt) (omega arith) (omega arith) in
-    record { answer = short; meaning = walked-shares {os = os} (c .loop-order .inv) short; bound = rw e tt }
+    record { answer = short; meaning = short ∙ walked-by-share (c .args .volume) os; bound = rw e tt }
 
 pub add-shares-cost-requires : need.add-shares-cost-requires
 add-shares-cost-requires g c κs =
@@ -33,8 +34,9 @@ loop-order-again g c =
 
 pub returns : need.returns
 returns g c =
+    let os = listed (g .B·ReadBook) (c .args .side) (c .args .book .now) in
     let b = bound-more (c .loop-order .inv) (c .in-Continue-order .ensures tt) (c .min-shares .ensures) (omega arith) in
     let whole =
     walked-whole (c .loop-order .inv) (c .in-Continue-order .ensures tt) (c .min-shares .ensures)
     (c .add-shares-cost .ensures) (c .if-shares-wanted .taken) (omega arith) (omega arith) in
-    record { answer = whole; meaning = walked-shares (c .loop-order .inv) whole; bound = omega arith }
+    record { answer = whole; meaning = whole ∙ walked-by-share (c .args .volume) os; bound = omega arith }

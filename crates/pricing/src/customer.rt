@@ -11,7 +11,7 @@ use crate::records::Quotation;
 use book::ReadBook;
 use book::Side;
 
-// What the whole order would cost in the book opposite, and what an executor who is better than the rounded average by the
+// What the whole order would cost over the orders opposite that count, and what an executor who is better than the rounded average by the
 // relative limit asks or pays for it. None where the walk gives none.
 pub fn price_order<B: ReadBook>(
     book: &B,
