@@ -27,7 +27,7 @@ module _ {X : Type 0} (xs : List X) (i : ℕ) where
   getD-looked : (x : X) → Some x ≡ nth xs i → getD xs i x ≡ x
   getD-looked x e = let l = within-looked x e in grind (arith, nth-getD xs i x l)
 
-  -- an order that was looked at is the first of what is left from its place on
+  -- a record that was looked at is the first of what is left from its place on
   pub drop-looked : (x : X) → Some x ≡ nth xs i → drop i xs ≡ x ∷ drop (i + 1) xs
   drop-looked x e = drop-more xs i x (within-looked x e) ∙ ap (λ y. y ∷ drop (i + 1) xs) (getD-looked x e)
 

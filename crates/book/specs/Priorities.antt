@@ -3,7 +3,8 @@ use mathlib.Core.Path.{_≡_}
 use mathlib.Core.Bool.{true, false}
 use mathlib.Core.List.{List, [], _∷_}
 use Rattle.std.specs.shelf.Lists.{All}
-use Rattle.book.specs.Priority.{ahead, in-order}
+use Rattle.ordered.specs.Order.{in-order}
+use Rattle.book.specs.Priority.{ahead}
 use Rattle.book.specs.Samples.{shown, unseen}
 use Rattle.book.specs.declared.resting.Resting.{Resting}
 use Rattle.book.specs.declared.side.Side.{Side}
@@ -37,8 +38,8 @@ First-comes-first p =
     × (ahead (p .side) (p .second) (p .first) ≡ false)
     × (ahead (p .side) (p .first) (p .first) ≡ false)
     × (ahead (p .side) (p .second) (p .second) ≡ false)
-    × (in-order (p .side) (p .first ∷ p .second ∷ []) ≡ true)
-    × (in-order (p .side) (p .second ∷ p .first ∷ []) ≡ false)
+    × (in-order (ahead (p .side)) (p .first ∷ p .second ∷ []) ≡ true)
+    × (in-order (ahead (p .side)) (p .second ∷ p .first ∷ []) ≡ false)
 
 abbrev pub Priorities-hold : Type 0
 Priorities-hold = All First-comes-first pairs

@@ -1,8 +1,8 @@
 // The two sides of a book. A buying order's own side is the bids, a selling one's the asks.
 ghost use mathlib.Core.Path.{_≡_};
-ghost use Rattle.book.specs.Sides.{opposite, reaches};
+ghost use Rattle.book.specs.Sides.{better, opposite, reaches};
 
-#[derive(Clone, Copy)]
+#[derive(Clone, Copy, PartialEq, Eq, Debug)]
 pub enum Side {
     Bid,
     Ask,
@@ -15,6 +15,16 @@ impl Side {
         match self {
             Side::Bid => Side::Ask,
             Side::Ask => Side::Bid,
+        }
+    }
+
+    // Whether a limit is strictly better on this side than another.
+    pub fn better(self, limit: u32, other: u32) -> bool
+        ensures { λ r. ⌜ r ≡ better self limit other ⌝ }
+    {
+        match self {
+            Side::Bid => limit > other,
+            Side::Ask => limit < other,
         }
     }
 
