@@ -2,14 +2,17 @@
 mod euro;
 mod sums;
 
+use book::Book;
+use book::Fault;
 use book::ReadBook;
 use book::Resting;
 use book::Side;
-use book::Snapshot;
-use book::SnapshotReadBook;
 use book::worked_priorities;
 use euro::Euro;
 use euro::EuroDisplay;
+use list_book::ListBook;
+use list_book::ListBookBook;
+use list_book::ListBookReadBook;
 use pricing::Price;
 use pricing::price_order;
 use pricing::worked_figures;
@@ -105,16 +108,19 @@ fn print_fill<B: ReadBook>(rt: &LibcRuntime, book: &B) -> Result<(), AnyError> {
     Ok(())
 }
 
+// The asks as they came, which is not in priority order.
+fn enter_asks<B: Book>(book: &mut B) -> Result<(), Fault> {
+    book.enter(Side::Ask, ask(1, 320, 54_460, true))?;
+    book.enter(Side::Ask, ask(2, 50, 54_410, false))?;
+    book.enter(Side::Ask, ask(3, 170, 54_390, true))
+}
+
 fn run(rt: &LibcRuntime) -> Result<(), AnyError> {
-    let asks = [
-        ask(1, 170, 54_390, true),
-        ask(2, 50, 54_410, false),
-        ask(3, 320, 54_460, true),
-    ];
-    let book = Snapshot {
-        bids: &[],
-        asks: &asks,
-    };
+    let mut book = ListBook::new();
+    if let Err(fault) = enter_asks(&mut book) {
+        let number = fault.code().number;
+        return Err(format!(rt.alloc(), "the book refused an order: {number}")?.into());
+    }
     println!(rt, "Asks as a customer sees them, prices in euro:")?;
     print_asks(rt, &book, false)?;
     println!(rt, "Asks as they are:")?;

@@ -13,7 +13,8 @@ use Rattle.std.specs.shelf.Maps.{nth}
 use Rattle.std.proofs.shelf.Sums.{leading-drop-all}
 use Rattle.std.proofs.shelf.Tests.{and-parts, and-right, cond-both, cond-false}
 use Rattle.std.proofs.shelf.Ways.{tells}
-use Rattle.book.specs.Priority.{ahead, none-ahead, in-order}
+use Rattle.ordered.specs.Order.{none-ahead, in-order}
+use Rattle.book.specs.Priority.{ahead}
 use Rattle.book.specs.Sides.{better}
 use Rattle.book.specs.declared.resting.Resting.{Resting}
 use Rattle.book.specs.declared.side.Side.{Side}
@@ -37,10 +38,10 @@ unbeaten s l k None p q = cond-false _ k l p
 unbeaten s l k (Some m) p q = cond-both (better s m k) m k (λ z. cond (better s z l) z l ≡ l) (λ _. q) (λ _. cond-false _ k l p)
 
 -- no visible limit beats that of an order which none is ahead of
-best-first : (s : Side) (o : Resting) (os : List Resting) → none-ahead s o os ≡ true → better-of s (o .limit) (best-visible s os) ≡ o .limit
+best-first : (s : Side) (o : Resting) (os : List Resting) → none-ahead (ahead s) o os ≡ true → better-of s (o .limit) (best-visible s os) ≡ o .limit
 best-first s o [] h = refl
 best-first s o (x ∷ xs) h =
-    let p = and-parts _ (none-ahead s o xs) h in
+    let p = and-parts _ (none-ahead (ahead s) o xs) h in
     let ih = best-first s o xs (p .1) in
     cond-both (x .visible) _ _ (λ b. better-of s (o .limit) b ≡ o .limit)
     (λ _. unbeaten s (o .limit) (x .limit) (best-visible s xs) (not-better s x o (p .0)) ih)
@@ -54,22 +55,22 @@ beats s o k (Some m) w p q =
     cond-both (better s m k) m k (λ z. better-hidden s (Some z) o ≡ true) (λ _. q) (λ _. rw (w, p))
 
 -- a hidden order that none is ahead of is better than the best visible limit
-hidden-first : (s : Side) (o : Resting) (os : List Resting) → none-ahead s o os ≡ true → o .visible ≡ false
+hidden-first : (s : Side) (o : Resting) (os : List Resting) → none-ahead (ahead s) o os ≡ true → o .visible ≡ false
     → better-hidden s (best-visible s os) o ≡ true
 hidden-first s o [] h w = rw w
 hidden-first s o (x ∷ xs) h w =
-    let p = and-parts _ (none-ahead s o xs) h in
+    let p = and-parts _ (none-ahead (ahead s) o xs) h in
     let ih = hidden-first s o xs (p .1) w in
     cond-both (x .visible) _ _ (λ b. better-hidden s b o ≡ true)
     (λ v. beats s o (x .limit) (best-visible s xs) w (better-than-visible s x o (p .0) v w) ih)
     (λ _. ih)
 
 -- behind a visible order that none is ahead of, no hidden order is better than its limit
-none-left-out : (s : Side) (o : Resting) (os : List Resting) → none-ahead s o os ≡ true
+none-left-out : (s : Side) (o : Resting) (os : List Resting) → none-ahead (ahead s) o os ≡ true
     → (kept-by (better-hidden s (Some (o .limit))) os ≡ []) × (kept-by (λ x. not (better-hidden s (Some (o .limit)) x)) os ≡ os)
 none-left-out s o [] h = (refl, refl)
 none-left-out s o (x ∷ xs) h =
-    let p = and-parts _ (none-ahead s o xs) h in
+    let p = and-parts _ (none-ahead (ahead s) o xs) h in
     let ih = none-left-out s o xs (p .1) in
     let n = and-right (not (x .visible)) _ (not-better s x o (p .0)) in
     (rw n (ih .0), rw n (ap (λ ys. x ∷ ys) (ih .1)))
@@ -80,7 +81,7 @@ Parted s b os =
     (take (left-out os) os ≡ kept-by (better-hidden s b) os)
     × (drop (left-out os) os ≡ kept-by (λ o. not (better-hidden s b o)) os)
 
-parted-visible : (s : Side) (o : Resting) (os : List Resting) → none-ahead s o os ≡ true → o .visible ≡ true → Parted s (Some (o .limit)) (o ∷ os)
+parted-visible : (s : Side) (o : Resting) (os : List Resting) → none-ahead (ahead s) o os ≡ true → o .visible ≡ true → Parted s (Some (o .limit)) (o ∷ os)
 parted-visible s o os h v =
     let r = none-left-out s o os h in
     let n : left-out (o ∷ os) ≡ 0 = rw v in
@@ -96,7 +97,7 @@ parted-hidden s b o os v t r =
 pub leaves-out : (s : Side) (os : List Resting) → Leaves-out-the-better-hidden s (left-out os) os
 leaves-out s [] h = (refl, refl)
 leaves-out s (o ∷ os) h =
-    let p = and-parts (none-ahead s o os) (in-order s os) h in
+    let p = and-parts (none-ahead (ahead s) o os) (in-order (ahead s) os) h in
     cond-both (o .visible) _ _ (λ b. Parted s b (o ∷ os))
     (λ v. subst (λ (l : ℕ). Parted s (Some l) (o ∷ os)) (sym (best-first s o os (p .0))) (parted-visible s o os (p .0) v))
     (λ v. parted-hidden s _ o os v (hidden-first s o os (p .0) v) (leaves-out s os (p .1)))

@@ -7,7 +7,6 @@ use native.Mathlib.Nat.{mul-le-mul-left}
 use native.Mathlib.Omega.{arith}
 use lib.Dec.{leb}
 use lib.ListN.{length, drop}
-use Rattle.std.specs.declared.option.Option.{Option}
 use Rattle.std.specs.declared.option.Option.the-variants.{Some, None}
 use Rattle.std.specs.shelf.Maps.{nth}
 use Rattle.std.proofs.shelf.Lists.{drop-all}
@@ -16,7 +15,6 @@ use Rattle.book.proofs.Looks.{drop-looked, past-looked, within-looked}
 use Rattle.book.specs.declared.resting.Resting.{Resting}
 use Rattle.pricing.specs.Counting.{counting}
 use Rattle.pricing.specs.Walk.{covered, walked}
-use Rattle.pricing.specs.declared.records.Walked.{Walked}
 
 -- What holds at place i, with `wanted` of the q shares still to walk: what is left of the list gives what all of it gives,
 -- and a share so far costs at most the largest limit of 32 bits.

@@ -1,13 +1,14 @@
 -- Which orders of a side count for the average.
 use mathlib.Core.Path.{_≡_}
-use mathlib.Core.Bool.{Bool, true, false, cond, not, _&&_}
+use mathlib.Core.Bool.{Bool, false, cond, not, _&&_}
 use mathlib.Core.List.{List, [], _∷_}
 use Prim.Native.Nat.{ℕ}
 use lib.ListN.{take, drop}
 use Rattle.std.specs.declared.option.Option.{Option}
 use Rattle.std.specs.declared.option.Option.the-variants.{Some, None}
 use Rattle.std.specs.shelf.Lists.{leading, kept-by}
-use Rattle.book.specs.Priority.{in-order}
+use Rattle.ordered.specs.Order.{InOrder}
+use Rattle.book.specs.Priority.{ahead}
 use Rattle.book.specs.Sides.{better}
 use Rattle.book.specs.declared.resting.Resting.{Resting}
 use Rattle.book.specs.declared.side.Side.{Side}
@@ -44,6 +45,6 @@ better-hidden s (Some l) o = not (o .visible) && better s (o .limit) l
 
 abbrev pub Leaves-out-the-better-hidden : Side → ℕ → List Resting → Type 0
 Leaves-out-the-better-hidden s n os =
-    in-order s os ≡ true →
+    InOrder (ahead s) os →
     (take n os ≡ kept-by (better-hidden s (best-visible s os)) os)
     × (drop n os ≡ kept-by (λ o. not (better-hidden s (best-visible s os) o)) os)
