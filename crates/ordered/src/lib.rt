@@ -45,12 +45,8 @@ fn slide_in<T: Copy>(slots: &mut [T], used: usize, place: usize, item: T)
     ensures slots { λ _. ⌜ now (slots .exit) ≡ inserted-at (take used (now (slots .entry))) place item ++ drop (used + 1) (now (slots .entry)) ⌝ }
     ensures kept { λ _. ⌜ take (used + 1) (now (slots .exit)) ≡ inserted-at (take used (now (slots .entry))) place item ⌝ }
 {
-    let mut gap = used;
-    while gap > place {
-        slots[gap] = slots[gap - 1];
-        gap -= 1;
-    }
-    slots[gap] = item;
+    slots.copy_within(place..used, place + 1);
+    slots[place] = item;
 }
 
 // Moves the records behind `place` down by one slot.
@@ -60,9 +56,7 @@ fn slide_out<T: Copy>(slots: &mut [T], used: usize, place: usize)
     ensures slots { λ _. ⌜ now (slots .exit) ≡ removed (take used (now (slots .entry))) place ++ drop (used - 1) (now (slots .entry)) ⌝ }
     ensures kept { λ _. ⌜ take (used - 1) (now (slots .exit)) ≡ removed (take used (now (slots .entry))) place ⌝ }
 {
-    for next in place + 1..used {
-        slots[next - 1] = slots[next];
-    }
+    slots.copy_within(place + 1..used, place);
 }
 
 // Puts an item into its place among the first `used` slots, before the first that it is ahead of, and answers how many there
