@@ -113,7 +113,7 @@ impl<B: Book> Trial<B> {
         told == self.plain.find(number)
     }
 
-    // Empties both books, and takes from each side of what is then there.
+    // Empties both books, and then tries to take from each side.
     pub fn empty(&mut self) -> Result<bool, AllocError> {
         self.book.empty();
         self.plain.empty();
