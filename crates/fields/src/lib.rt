@@ -1,4 +1,6 @@
 // Numbers as they are sent, held to their ranges.
+#![tactic(auto)]
+
 ghost use Rattle.std.specs.Prelude.{◌≡◌};
 ghost use Rattle.fields.specs.Ranges.{ranged};
 

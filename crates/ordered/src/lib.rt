@@ -1,4 +1,6 @@
 // Keeping records in order, settled once for any record that has an order, and finding one by its key.
+#![tactic(auto)]
+
 ghost use Rattle.std.specs.Prelude.{◌≡◌, ◌+◌, ◌-◌, ◌<◌, ◌≤◌, Bool, true, false, ◌++◌, length, take, drop, IfSome};
 ghost use Rattle.std.specs.List.{insert as inserted_at, remove};
 ghost use Rattle.ordered.specs.Order.{first_place, inserted, inserts, with_inserted, takes_out, with_taken_out, InsertionGoesBehindEquals, InsertionKeepsOrder};
@@ -30,7 +32,7 @@ pub trait Keyed<K>: Copy {
 fn place_of<By: Copy, T: Ordered<By>>(slots: &[T], used: usize, item: &T, by: By) -> usize
     requires { used ≤ length slots.now }
     ensures within { result ≤ used }
-    ensures parts { inserted (ahead by) item.now (take used slots.now) ≡ inserted_at (take used slots.now) result item.now }
+    ensures parts { inserted (T.ahead by) item.now (take used slots.now) ≡ inserted_at (take used slots.now) result item.now }
 {
     for place in 0..used {
         if item.is_ahead(&slots[place], by) {
@@ -70,8 +72,8 @@ pub fn insert<By: Copy, T: Ordered<By>>(
     by: By,
 ) -> Option<usize>
     ensures answer { result ≡ inserts used (length slots.old) }
-    ensures slots { slots.new ≡ with_inserted (ahead by) item used slots.old }
-    ensures kept { IfSome result (λ n. take n slots.new ≡ inserted (ahead by) item (take used slots.old)) }
+    ensures slots { slots.new ≡ with_inserted (T.ahead by) item used slots.old }
+    ensures kept { IfSome result (λ n. take n slots.new ≡ inserted (T.ahead by) item (take used slots.old)) }
 {
     if used >= slots.len() {
         return None;
@@ -83,8 +85,8 @@ pub fn insert<By: Copy, T: Ordered<By>>(
 
 // Under every lawful order, insertion keeps a list in order, and in such a list the item goes behind any that is equal.
 fn insertion_keeps_order<By: Copy, T: Ordered<By>>(by: By)
-    ensures order { InsertionKeepsOrder (ahead by) }
-    ensures behind { InsertionGoesBehindEquals (ahead by) }
+    ensures order { InsertionKeepsOrder (T.ahead by) }
+    ensures behind { InsertionGoesBehindEquals (T.ahead by) }
 {}
 
 // Takes the record at a place out of the first `used` slots, closes the gap, and answers how many there are then. None, and
@@ -103,7 +105,7 @@ pub fn take_out<T: Copy>(slots: &mut [T], used: usize, place: usize) -> Option<u
 
 // The first place of a key among the first `used` slots.
 pub fn find<K: Copy, T: Keyed<K>>(slots: &[T], used: usize, key: K) -> Option<usize>
-    ensures answer { result ≡ first_place (has key) 0 (take used slots.now) }
+    ensures answer { result ≡ first_place (T.has key) 0 (take used slots.now) }
     ensures within { IfSome result (λ place. (place < used) × (place < length slots.now)) }
 {
     for place in 0..used.min(slots.len()) {
