@@ -1,4 +1,6 @@
 // The order book: its sides, its resting orders and their priority, and what any book is by the two lists that it stands for.
+#![tactic(auto)]
+
 mod fault;
 mod keeping;
 mod priorities;

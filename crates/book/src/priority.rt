@@ -2,7 +2,6 @@
 ghost use Rattle.book.specs.Lists.{has_number};
 ghost use Rattle.book.specs.Priority.{ahead};
 ghost use Rattle.book.specs.Ranks;
-ghost use Rattle.std.proofs.Common.{rules};
 
 use crate::resting::Resting;
 use crate::side::Side;
@@ -11,7 +10,7 @@ use ordered::{Keyed, Ordered};
 impl Ordered<Side> for Resting {
     ghost ahead = { ahead };
 
-    ghost irreflexive = { Prim.search rules };
+    ghost irreflexive = { Ranks.irreflexive };
 
     ghost transitive = { Ranks.transitive };
 
