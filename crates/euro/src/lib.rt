@@ -1,4 +1,6 @@
 // Amounts in euro for programs that show them: how one is written, and sums over a whole order.
+#![tactic(auto)]
+
 mod amount;
 mod sums;
 

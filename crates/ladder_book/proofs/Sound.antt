@@ -42,15 +42,22 @@ opened s =
       ordered = s.ordered;
     }
 
--- a side's ghost fields, as a need `ghost-self` asks for them
+-- a side's ghost fields, as the goal `invariant_of-self` asks for them
 abbrev pub Given : Side → List Resting → (next slots : List ℕ) → List Level → (count depth : ℕ) → Type 0
 Given side orders next slots levels count depth =
-    (length orders ≡ 128) × ((length levels ≡ 128) × ((count ≤ 128) × ((depth ≤ 128) × ((length (book orders next (take depth levels)) ≡ count)
-    × (((k : ℕ) → occurs k (ids next (take depth levels) ++ drop count slots) ≡ once k)
-    × (((k : ℕ) → k < depth → 0 < (level_at levels k).size)
-    × (((k i : ℕ) → k < depth → 1 ≤ occurs i (queue next (level_at levels k)) → bare (at orders i) ≡ sign (level_at levels k))
-    × (((k : ℕ) → k < depth → (level_at levels k).tail ≡ ends 0 (queue next (level_at levels k)))
-    × (Falls side (take depth levels) × (InOrder (ahead side) (book orders next (take depth levels)) × Unit {0}))))))))))
+    record {
+      wide : length orders ≡ 128;
+      long : length levels ≡ 128;
+      room : count ≤ 128;
+      tall : depth ≤ 128;
+      held : length (book orders next (take depth levels)) ≡ count;
+      apart : (k : ℕ) → occurs k (ids next (take depth levels) ++ drop count slots) ≡ once k;
+      filled : (k : ℕ) → k < depth → 0 < (level_at levels k).size;
+      keyed : (k i : ℕ) → k < depth → 1 ≤ occurs i (queue next (level_at levels k)) → bare (at orders i) ≡ sign (level_at levels k);
+      tailed : (k : ℕ) → k < depth → (level_at levels k).tail ≡ ends 0 (queue next (level_at levels k));
+      falls : Falls side (take depth levels);
+      ordered : InOrder (ahead side) (book orders next (take depth levels));
+    }
 
 pub shut : (side : Side) (orders : List Resting) (next slots free : List ℕ) (levels live : List Level) (count depth : ℕ) → length orders ≡ 128 → length levels ≡ 128 → count ≤ 128 → depth ≤ 128
     → take depth levels ≡ live → drop count slots ≡ free → length (ids next live) ≡ count → Sound side orders next free live → Given side orders next slots levels count depth
@@ -67,7 +74,19 @@ shut side orders next slots free levels live count depth wide long room tall el 
     let filled : (k : ℕ) → k < depth → 0 < (level_at levels k).size = λ k h. (proper k h).filled in
     let keyed : (k i : ℕ) → k < depth → 1 ≤ occurs i (queue next (level_at levels k)) → bare (at orders i) ≡ sign (level_at levels k) = λ k i h. (proper k h).keyed i in
     let tailed : (k : ℕ) → k < depth → (level_at levels k).tail ≡ ends 0 (queue next (level_at levels k)) = λ k h. (proper k h).tailed in
-    (wide, (long, (room, (tall, (held, (apart, (filled, (keyed, (tailed, (falls, (ordered, tt)))))))))))
+    record {
+      wide = wide;
+      long = long;
+      room = room;
+      tall = tall;
+      held = held;
+      apart = apart;
+      filled = filled;
+      keyed = keyed;
+      tailed = tailed;
+      falls = falls;
+      ordered = ordered;
+    }
 
 pub ids_append : (next : List ℕ) (ls ms : List Level) → ids next (ls ++ ms) ≡ ids next ms ++ ids next ls
 ids_append next [] ms = sym (append-nil (ids next ms))

@@ -1,5 +1,7 @@
 // The price of a quote: the average that a customer's whole order would fetch over the orders that count, and the executor's
 // price from it.
+#![tactic(auto)]
+
 mod averaging;
 mod counting;
 mod customer;

@@ -3,10 +3,11 @@ use Rattle.std.proofs.Common.{◌≡◌, ℕ, zero, suc, true, false, cond, ◌|
 use native.Mathlib.Nat.{zero-div}
 use Rattle.std.specs.List.{remove}
 use Rattle.std.specs.Map.{update}
-use Rattle.std.proofs.lemmas.Map.{Hit, Missing, update_apart, update_here}
+use Rattle.std.proofs.lemmas.Map.{update_apart, update_here}
 use Rattle.std.proofs.lemmas.Bool.{and_parts, and_right, cases_Bool, cond_both, eqb-true}
 use Rattle.std.proofs.lemmas.Bool.Decides.{nat_tests}
 use Rattle.fields.specs.Ranges.{within}
+use Rattle.ordered.proofs.Finds.{Hits, Misses}
 use Rattle.ordered.specs.Order.{inserted}
 use Rattle.providers.proofs.Places.{missing_none, placed_hits, placed_misses}
 use Rattle.providers.proofs.Rises.{misses_behind}
@@ -24,27 +25,27 @@ use Rattle.providers.specs.declared.provider.ProviderFields.{ProviderFields}
 abbrev with : List Provider → ℕ → Option Provider → ℕ → Option Provider
 with ps m x q = update eqb (λ n. provider_of n ps) m x q
 
-after_set : (p : Provider) (ps : List Provider) (i : ℕ) → Hit eqb p.member (members ps) i → (q : ℕ) → provider_of q (set ps i p) ≡ with ps p.member (Some p) q
+after_set : (p : Provider) (ps : List Provider) (i : ℕ) → Hits (eqb p.member) (members ps) i → (q : ℕ) → provider_of q (set ps i p) ≡ with ps p.member (Some p) q
 after_set p [] i h q = absurd h
 after_set p (y ∷ ys) zero h q = grind (arith, nat_tests)
 after_set p (y ∷ ys) (suc i) h q = let ih = after_set p ys i h.1 q in grind (arith, nat_tests, h.0)
 
-after_removal : (m : ℕ) (ps : List Provider) (i : ℕ) → Hit eqb m (members ps) i → Missing eqb m (drop (suc i) (members ps)) → (q : ℕ) → provider_of q (remove ps i) ≡ with ps m None q
+after_removal : (m : ℕ) (ps : List Provider) (i : ℕ) → Hits (eqb m) (members ps) i → Misses (eqb m) (drop (suc i) (members ps)) → (q : ℕ) → provider_of q (remove ps i) ≡ with ps m None q
 after_removal m [] i h gone q = absurd h
 after_removal m (y ∷ ys) zero h gone q =
     let none = missing_none m ys gone in
-    elim (cases_Bool (eqb q m)) [ inl t ↦ rw (t, eqb-true q m t, none) | inr t ↦ let u : eqb q y.member ≡ false = grind (arith, nat_tests) in rw (t, u) ]
+    elim (cases_Bool (eqb m q)) [ inl t ↦ rw (t, ← eqb-true m q t, none) | inr t ↦ let u : eqb q y.member ≡ false = grind (arith, nat_tests) in rw (t, u) ]
 after_removal m (y ∷ ys) (suc i) h gone q = let ih = after_removal m ys i h.1 gone q in grind (arith, nat_tests, h.0)
 
-after_insertion : (p : Provider) (ps : List Provider) → Missing eqb p.member (members ps) → (q : ℕ) → provider_of q (inserted (by_member tt) p ps) ≡ with ps p.member (Some p) q
-after_insertion p [] m q = refl
+after_insertion : (p : Provider) (ps : List Provider) → Misses (eqb p.member) (members ps) → (q : ℕ) → provider_of q (inserted (by_member tt) p ps) ≡ with ps p.member (Some p) q
+after_insertion p [] m q = grind (arith, nat_tests)
 after_insertion p (y ∷ ys) m q =
     let ih = after_insertion p ys m.1 q in
-    cond_both (ltb p.member y.member) _ _ (λ zs. provider_of q zs ≡ with (y ∷ ys) p.member (Some p) q) (λ _. refl) (λ _. grind (arith, nat_tests, m.0))
+    cond_both (ltb p.member y.member) _ _ (λ zs. provider_of q zs ≡ with (y ∷ ys) p.member (Some p) q) (λ _. grind (arith, nat_tests)) (λ _. grind (arith, nat_tests, m.0))
 
-same_without : (m : ℕ) (ps : List Provider) → Missing eqb m (members ps) → (q : ℕ) → provider_of q ps ≡ with ps m None q
+same_without : (m : ℕ) (ps : List Provider) → Misses (eqb m) (members ps) → (q : ℕ) → provider_of q ps ≡ with ps m None q
 same_without m ps h q =
-    elim (cases_Bool (eqb q m)) [ inl t ↦ rw (t, eqb-true q m t) (missing_none m ps h) | inr t ↦ rw t ]
+    elim (cases_Bool (eqb m q)) [ inl t ↦ rw (t, ← eqb-true m q t) (missing_none m ps h) | inr t ↦ rw t ]
 
 -- who stands for the member that is set
 abbrev standing : Provider → Option Provider

@@ -1,11 +1,11 @@
 -- Members that rise stay so, and stand in order and once.
 use Rattle.std.proofs.Common.{◌≡◌, ℕ, zero, suc, ◌<◌, ◌≤◌, true, false, cond, not, eqb, ltb, leb, List, [], ◌∷◌, drop, set, count_by, refl, ap, ◌∙◌, inl, inr, arith}
 use Rattle.std.specs.List.{remove}
-use Rattle.std.proofs.lemmas.List.{drop-map, map-append, map_set, take-map}
-use Rattle.std.proofs.lemmas.Map.{Hit, Missing}
+use Rattle.std.proofs.lemmas.List.{drop-map, map-append, map-set, take-map}
 use Rattle.std.proofs.lemmas.List.Sums.{sum_by-cons}
 use Rattle.std.proofs.lemmas.Bool.{and_from, and_parts, cases_Bool, cond_both, eqb-true}
 use Rattle.std.proofs.lemmas.Bool.Decides.{nat_tests}
+use Rattle.ordered.proofs.Finds.{Hits, Misses}
 use Rattle.ordered.proofs.Keeps.{order_parts, removal_keeps}
 use Rattle.ordered.specs.Order.{InOrder, inserted, none_ahead}
 use Rattle.providers.specs.Keeping.{MembersStandInOrderAndOnce}
@@ -29,7 +29,7 @@ above_lower m n (x ∷ ns) l h =
     let k : m < x = grind (arith, nat_tests) in
     above_from m x ns k (above_lower m n ns l p.1)
 
-above_misses : (n : ℕ) (ns : List ℕ) → Above n ns → Missing eqb n ns
+above_misses : (n : ℕ) (ns : List ℕ) → Above n ns → Misses (eqb n) ns
 above_misses n [] h = tt
 above_misses n (x ∷ ns) h =
     let p = above_parts n x ns h in
@@ -37,7 +37,7 @@ above_misses n (x ∷ ns) h =
     (t, above_misses n ns p.1)
 
 -- a number stands nowhere behind its place
-pub misses_behind : (n : ℕ) (ns : List ℕ) (i : ℕ) → rising ns ≡ true → Hit eqb n ns i → Missing eqb n (drop (suc i) ns)
+pub misses_behind : (n : ℕ) (ns : List ℕ) (i : ℕ) → rising ns ≡ true → Hits (eqb n) ns i → Misses (eqb n) (drop (suc i) ns)
 misses_behind n [] i r h = absurd h
 misses_behind n (x ∷ ns) zero r h = rw (eqb-true n x h) (above_misses x ns (order_parts leb x ns r).0)
 misses_behind n (x ∷ ns) (suc i) r h = misses_behind n ns i (order_parts leb x ns r).1 h.1
@@ -51,7 +51,7 @@ above_inserted m n (x ∷ ns) l h =
     (λ _. above_from m n (x ∷ ns) l h)
     (λ _. above_from m x (inserted ltb n ns) k (above_inserted m n ns l p.1))
 
-inserted_rises : (n : ℕ) (ns : List ℕ) → Missing eqb n ns → rising ns ≡ true → rising (inserted ltb n ns) ≡ true
+inserted_rises : (n : ℕ) (ns : List ℕ) → Misses (eqb n) ns → rising ns ≡ true → rising (inserted ltb n ns) ≡ true
 inserted_rises n [] m r = refl
 inserted_rises n (x ∷ ns) m r =
     let p = order_parts leb x ns r in
@@ -72,7 +72,7 @@ members_inserted p (q ∷ qs) =
       | inr t ↦ rw t (ap (λ ns. q.member ∷ ns) (members_inserted p qs))
     ]
 
-hit_set : (n : ℕ) (ns : List ℕ) (i : ℕ) → Hit eqb n ns i → set ns i n ≡ ns
+hit_set : (n : ℕ) (ns : List ℕ) (i : ℕ) → Hits (eqb n) ns i → set ns i n ≡ ns
 hit_set n [] i h = absurd h
 hit_set n (x ∷ ns) zero h = ap (λ y. y ∷ ns) (eqb-true n x h)
 hit_set n (x ∷ ns) (suc i) h = ap (λ ys. x ∷ ys) (hit_set n ns i h.1)
@@ -82,10 +82,10 @@ module _ (ps : List Provider) (r : rising (members ps) ≡ true) where
   pub removal_rises : (i : ℕ) → rising (members (remove ps i)) ≡ true
   removal_rises i = rw (map-append, ← take-map, ← drop-map) (removal_keeps leb (members ps) i r)
 
-  pub set_rises : (i : ℕ) (p : Provider) → Hit eqb p.member (members ps) i → rising (members (set ps i p)) ≡ true
-  set_rises i p h = ap rising (map_set (λ q. q.member) ps i p ∙ hit_set p.member (members ps) i h) ∙ r
+  pub set_rises : (i : ℕ) (p : Provider) → Hits (eqb p.member) (members ps) i → rising (members (set ps i p)) ≡ true
+  set_rises i p h = ap rising (map-set (λ q. q.member) ps i p ∙ hit_set p.member (members ps) i h) ∙ r
 
-  pub insertion_rises : (p : Provider) → Missing eqb p.member (members ps) → rising (members (inserted (by_member tt) p ps)) ≡ true
+  pub insertion_rises : (p : Provider) → Misses (eqb p.member) (members ps) → rising (members (inserted (by_member tt) p ps)) ≡ true
   insertion_rises p m = rw members_inserted (inserted_rises p.member (members ps) m r)
 
 none_before : (p : Provider) (ps : List Provider) → none_ahead leb p.member (members ps) ≡ true → none_ahead (by_member tt) p ps ≡ true
@@ -100,7 +100,7 @@ in_order_from (p ∷ ps) r =
     let x = order_parts leb p.member (members ps) r in
     and_from _ _ (none_before p ps x.0) (in_order_from ps x.1)
 
-missing_count : (m : ℕ) (ps : List Provider) → Missing eqb m (members ps) → count_by (has_member m) ps ≡ 0
+missing_count : (m : ℕ) (ps : List Provider) → Misses (eqb m) (members ps) → count_by (has_member m) ps ≡ 0
 missing_count m [] h = refl
 missing_count m (p ∷ ps) h = rw h.0 (missing_count m ps h.1)
 

@@ -1,4 +1,6 @@
 // The flow providers: what each member has agreed with the executors, and its default executor.
+#![tactic(auto)]
+
 mod fault;
 mod lookup;
 mod provider;

@@ -1,4 +1,6 @@
 // Executors' quote sides: entry, withdrawal, fill and refill, and what they tell.
+#![tactic(auto)]
+
 mod calls;
 mod entry;
 mod fault;

@@ -4,8 +4,8 @@ use Rattle.ladder_book.proofs.Sound.{size_short}
 use Rattle.ladder_book.proofs.Seats.{behind_sits}
 use Rattle.ladder_book.proofs.ladder.Ladder.behind.Goals as goal
 
-pub overflow-add-result : goal.overflow-add-result
-overflow-add-result c =
+pub overflow_add-result : goal.overflow_add-result
+overflow_add-result c =
     let s = c.args.self.now in
     Fits-below {n = 129} tt (omega (arith, size_short s c.args.seat.level c.requires.sits.level, c.requires.more, s.room))
 

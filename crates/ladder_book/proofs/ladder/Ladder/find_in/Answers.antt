@@ -3,8 +3,8 @@ use mir.Facts.{Fits-below}
 use Rattle.ladder_book.proofs.Finds.{found_here, found_more, found_none, rung_counts, rung_found, rung_missed}
 use Rattle.ladder_book.proofs.ladder.Ladder.find_in.Goals as goal
 
-pub overflow-add-result : goal.overflow-add-result
-overflow-add-result c =
+pub overflow_add-result : goal.overflow_add-result
+overflow_add-result c =
     let counts = rung_counts c.args.self.now c.args.rung c.requires.some c.requires.rung in
     Fits-below {n = 129} tt (omega (arith, counts, c.requires.start))
 

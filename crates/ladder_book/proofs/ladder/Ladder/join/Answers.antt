@@ -6,8 +6,8 @@ use Rattle.ladder_book.proofs.ladder.Ladder.join.Goals as goal
 pub grow-requires : goal.grow-requires
 grow-requires c = let s = c.args.self.now in omega (arith, size_short s c.args.seat.level c.requires.seated.sits.level, s.held, c.requires.room)
 
-pub invariant-of-self : goal.invariant-of-self
-invariant-of-self c =
+pub invariant_of-self : goal.invariant_of-self
+invariant_of-self c =
     let s = c.args.self.now in
     let links : length s.next ≡ 128 = search rules in
     let places : length s.slots ≡ 128 = search rules in

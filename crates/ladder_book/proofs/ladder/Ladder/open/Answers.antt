@@ -2,8 +2,8 @@ use Rattle.std.proofs.Common.{◌≡◌, length, refl, arith, rules}
 use Rattle.ladder_book.proofs.Opens.{depth_few, open_given, open_list}
 use Rattle.ladder_book.proofs.ladder.Ladder.open.Goals as goal
 
-pub invariant-of-self : goal.invariant-of-self
-invariant-of-self c =
+pub invariant_of-self : goal.invariant_of-self
+invariant_of-self c =
     let s = c.args.self.now in
     let places : length s.slots ≡ 128 = search rules in
     let long : length c.widen.new.levels ≡ 128 = search rules in

@@ -2,8 +2,8 @@ use Rattle.std.proofs.Common.{refl}
 use Rattle.ladder_book.proofs.Firsts.{front_is, resize_given, resize_list, some_levels}
 use Rattle.ladder_book.proofs.ladder.Ladder.resize_first.Goals as goal
 
-pub invariant-of-self : goal.invariant-of-self
-invariant-of-self c =
+pub invariant_of-self : goal.invariant_of-self
+invariant_of-self c =
     let s = c.args.self.now in
     let f = c.front-head.ensures in
     let p = some_levels s c.requires in

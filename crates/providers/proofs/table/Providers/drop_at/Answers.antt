@@ -4,8 +4,8 @@ use Rattle.providers.specs.Held.{held}
 use Rattle.providers.specs.Members.{members, rising}
 use Rattle.providers.proofs.table.Providers.drop_at.Goals as goal
 
-pub invariant-of-self : goal.invariant-of-self
-invariant-of-self c =
+pub invariant_of-self : goal.invariant_of-self
+invariant_of-self c =
     let ps = c.args.self.now in
     let kept = c.in-Some.ensures.kept in
-    (search rules, (search rules, (ap (λ qs. rising (members qs)) kept ∙ removal_rises (held ps) ps.order c.args.place, tt)))
+    record { long = search rules; few = search rules; order = ap (λ qs. rising (members qs)) kept ∙ removal_rises (held ps) ps.order c.args.place }

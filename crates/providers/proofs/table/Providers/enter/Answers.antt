@@ -19,17 +19,17 @@ same_value a b s u = λ i. record {
   order = is_prop→PathP (λ j. rising (members (take (u j) (s j))) ≡ true) (λ j. hlevel props) a.order b.order i;
 }
 
-pub returns-in-default : goal.returns-in-default
-returns-in-default c =
+pub returns-in_default : goal.returns-in_default
+returns-in_default c =
     let ps = c.args.self.now in
-    let told = c.in-default.ensures in
+    let told = c.in_default.ensures in
     let unchanged : c.insert.new.slots ≡ ps.slots = grind (arith, nat_tests, told.answer, told.slots) in
     record { answer = search rules; after = search rules; refused = λ _. same_value _ ps unchanged refl }
 
-pub invariant-of-self-2 : goal.invariant-of-self-2
-invariant-of-self-2 c =
+pub invariant_of-self-2 : goal.invariant_of-self-2
+invariant_of-self-2 c =
     let ps = c.args.self.now in
     let p = c.args.provider in
     let kept = c.in-Some.ensures.kept in
     let new = placed_misses p.member (held ps) c.requires in
-    (search rules, (search rules, (ap (λ qs. rising (members qs)) kept ∙ insertion_rises (held ps) ps.order p new, tt)))
+    record { long = search rules; few = search rules; order = ap (λ qs. rising (members qs)) kept ∙ insertion_rises (held ps) ps.order p new }

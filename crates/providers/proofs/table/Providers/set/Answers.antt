@@ -5,16 +5,16 @@ use Rattle.providers.specs.Held.{held}
 use Rattle.providers.specs.Settings.{sets, settled}
 use Rattle.providers.proofs.table.Providers.set.Goals as goal
 
-pub returns-in-err-provider : goal.returns-in-err-provider
-returns-in-err-provider c =
+pub returns-in_err-provider : goal.returns-in_err-provider
+returns-in_err-provider c =
     let ps = c.args.self.now in
-    let answer : c.from-residual.result ≡ sets c.args.fields (held ps) = search rules in
+    let answer : c.from_residual.result ≡ sets c.args.fields (held ps) = search rules in
     let same : held ps ≡ settled c.args.fields (held ps) = search rules in
     record {
       answer = answer;
       after = same;
       refused = search rules;
-      lookups = λ p n. sets_just_that c.args.fields p n (held ps) (held ps) c.from-residual.result ps.order answer same;
+      lookups = λ p n. sets_just_that c.args.fields p n (held ps) (held ps) c.from_residual.result ps.order answer same;
       order = members_stand (held ps) ps.order;
     }
 

@@ -2,8 +2,8 @@ use Rattle.std.proofs.Common.{rules}
 use Rattle.quotes.proofs.Sounds.{every_sound, found_in_words, sound_get_or}
 use Rattle.quotes.proofs.table.Quotes.side_at.Goals as goal
 
-pub returns-in-err-place : goal.returns-in-err-place
-returns-in-err-place c =
+pub returns-in_err-place : goal.returns-in_err-place
+returns-in_err-place c =
     let table = c.args.self.now in
     record { answer = search rules; sound = search rules; all = every_sound table.sides table.sound }
 
@@ -12,6 +12,6 @@ returns c =
     let table = c.args.self.now in
     record {
       answer = search rules;
-      sound = found_in_words _ (sound_get_or table.sides c.in-ok-place.field-0 table.sound);
+      sound = found_in_words _ (sound_get_or table.sides c.in_ok-place.field-0 table.sound);
       all = every_sound table.sides table.sound;
     }
