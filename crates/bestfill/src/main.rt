@@ -1,4 +1,6 @@
 // Shows one customer's order priced and filled by an executor's quote, from the book to what the customer gains.
+#![tactic(auto)]
+
 mod euro;
 mod sums;
 

@@ -1,5 +1,7 @@
 // Shows one customer's order priced and filled by an executor's quote, from the book to what the customer gains, and the quote
 // refilled after it.
+#![tactic(auto)]
+
 mod refusal;
 
 use anyhow::{Context, anyhow};

@@ -1,5 +1,7 @@
 // Drives the ordered list through drawn calls, beside a book that is kept in no order, and compares every answer and both
 // sides after every call. It ends with an error where they differ.
+#![tactic(auto)]
+
 mod draw;
 mod plain;
 mod tally;

@@ -1,5 +1,7 @@
 // Times the calls of the two books, side by side, at several depths. The command line says how often; without that it only says
 // how to ask.
+#![tactic(auto)]
+
 mod script;
 mod timing;
 
