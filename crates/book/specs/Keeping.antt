@@ -1,7 +1,7 @@
 -- What the calls keep: of lists in priority order their order, and of an order all but its volume. And what find tells.
 use Rattle.std.specs.Prelude.{◌≡◌, ℕ, ◌⊎◌, List, map, take, drop, Some, Ok, Err, ◌≢◌}
 use Rattle.std.specs.Option.{option_map}
-use Rattle.std.specs.List.{remove, AllByRecursion as All, slice_get}
+use Rattle.std.specs.List.{remove, AllByRecursion, slice_get}
 use Rattle.ordered.specs.Order.{InOrder}
 use Rattle.book.specs.Lists.{asks_without, bids_without, entered, found, removes, taken}
 use Rattle.book.specs.Priority.{ahead}
@@ -26,7 +26,7 @@ OneLess before after = (after ≡ before) ⊎ ((i : ℕ) × (after ≡ remove be
 
 -- no order of the list has the number
 abbrev pub NoneHas : ℕ → List Resting → Type 0
-NoneHas n os = All (λ o. o.number ≢ n) os
+NoneHas n os = AllByRecursion (λ o. o.number ≢ n) os
 
 -- an order but for its volume
 abbrev pub face : Resting → Resting

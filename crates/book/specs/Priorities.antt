@@ -1,6 +1,6 @@
 -- Pairs of orders of which the first comes first, worked by hand from the rule of priority.
 use Rattle.std.specs.Prelude.{◌≡◌, true, false, List, [], ◌∷◌}
-use Rattle.std.specs.List.{AllByRecursion as All}
+use Rattle.std.specs.List.{AllByRecursion}
 use Rattle.ordered.specs.Order.{in_order}
 use Rattle.book.specs.Priority.{ahead}
 use Rattle.book.specs.Samples.{shown, unseen}
@@ -40,4 +40,4 @@ FirstComesFirst p =
     × (in_order (ahead p.side) (p.second ∷ p.first ∷ []) ≡ false)
 
 abbrev pub PrioritiesHold : Type 0
-PrioritiesHold = All FirstComesFirst pairs
+PrioritiesHold = AllByRecursion FirstComesFirst pairs

@@ -1,6 +1,6 @@
 -- An order linked into a queue.
 use Rattle.std.proofs.Common.{◌≡◌, ℕ, zero, suc, ◌+◌, ◌-◌, ◌<◌, ◌≤◌, true, false, cond, eqb, ◌≢◌, List, [], ◌∷◌, ◌++◌, map, length, get_or, take, drop, set, sym, refl, ap, ◌∙◌, subst, inl, inr, add-one, arith}
-use Rattle.std.specs.List.{AllByRecursion as All}
+use Rattle.std.specs.List.{AllByRecursion}
 use Rattle.std.proofs.ByRecursion.{All-append, All-get_or}
 use Rattle.std.proofs.lemmas.List.{drop_more, get_or-set_other, get_or-set_same, length-map, length-set, map-append, set_split}
 use Rattle.std.proofs.lemmas.Bool.{cases_eq, cond_both, cond-false, cond-true, eq-eqb, eqb-false, ne_eqb}
@@ -165,7 +165,7 @@ module _ (side : Side) (orders : List Resting) (next free : List ℕ) (slot : �
   all_was = ids_cut next live k h ∙ (ap (λ z. (ids next hi ++ z) ++ ids next lo) was ∙ regroup (ids next hi) F G (ids next lo))
 
   -- the order is ahead of none of the queue in front of its seat, since not of the last of these
-  front_behind : All (λ x. ahead side o x ≡ false) (map (at orders) F)
+  front_behind : AllByRecursion (λ x. ahead side o x ≡ false) (map (at orders) F)
   front_behind =
       let f = at orders in
       let P = ids next hi ++ F in
@@ -192,18 +192,18 @@ module _ (side : Side) (orders : List Resting) (next free : List ℕ) (slot : �
             subst (λ i. Stops (ahead side) o (map (at orders) (walk next i (hop next t.passed l.head) ++ ids next lo))) e here
       ]
 
-  own_parts : All (Proper orders next) lo × All (Proper orders next) (l ∷ hi)
+  own_parts : AllByRecursion (Proper orders next) lo × AllByRecursion (Proper orders next) (l ∷ hi)
   own_parts = all_parts (Proper orders next) lo (l ∷ hi) sound.proper
 
-  behind : All (λ x. ahead side o x ≡ false) (map (at orders) (ids next hi ++ F))
+  behind : AllByRecursion (λ x. ahead side o x ≡ false) (map (at orders) (ids next hi ++ F))
   behind =
-      let above : All (λ x. ahead side (sign x) (bare o) ≡ true) hi = subst (λ z. All (λ x. ahead side (sign x) z ≡ true) hi) key (falls_above side lo hi l sound.falls) in
-      subst (All (λ x. ahead side o x ≡ false)) (sym (map-append (at orders) (ids next hi) F))
+      let above : AllByRecursion (λ x. ahead side (sign x) (bare o) ≡ true) hi = subst (λ z. AllByRecursion (λ x. ahead side (sign x) z ≡ true) hi) key (falls_above side lo hi l sound.falls) in
+      subst (AllByRecursion (λ x. ahead side o x ≡ false)) (sym (map-append (at orders) (ids next hi) F))
       (All-append (λ x. ahead side o x ≡ false) (book orders next hi) (map (at orders) F) (better_behind side orders next o hi own_parts.1.1 above) front_behind)
 
   before : Stops (ahead side) o (map (at orders) (G ++ ids next lo))
   before =
-      let below : All (λ x. ahead side (bare o) (sign x) ≡ true) lo = subst (λ z. All (λ x. ahead side z (sign x) ≡ true) lo) key (falls_below side lo hi l sound.falls) in
+      let below : AllByRecursion (λ x. ahead side (bare o) (sign x) ≡ true) lo = subst (λ z. AllByRecursion (λ x. ahead side z (sign x) ≡ true) lo) key (falls_below side lo hi l sound.falls) in
       back_before (stops_all (ahead side) o (book orders next lo) (worse_before side orders next o lo own_parts.0 below))
 
   pub joined : Put side orders next free slot live o (linked next t slot) (set live k (grown l t slot))
@@ -213,7 +213,7 @@ module _ (side : Side) (orders : List Resting) (next free : List ℕ) (slot : �
       let back = level_cut live k h in
       let e : set live k x ≡ lo ++ x ∷ hi = set_split live k x h ∙ ap (λ n. lo ++ x ∷ drop n live) (sym (add-one k)) in
       let f = falls_put side lo hi l x refl sound.falls in
-      let p : All (Proper (set orders slot o) N) (x ∷ []) = (grown_proper, tt) in
+      let p : AllByRecursion (Proper (set orders slot o) N) (x ∷ []) = (grown_proper, tt) in
       subst (Put side orders next free slot live o N) (sym e) (
         put_list side orders next N slot free lo (l ∷ []) (x ∷ []) hi F G o sound wide was is same p f behind before ∙ ap (λ z. inserted (ahead side) o (book orders next z)) (sym back),
         put_count side orders next N slot free lo (l ∷ []) (x ∷ []) hi F G o sound wide was is same p f behind before ∙ ap (λ z. length (ids next z) + 1) (sym back),

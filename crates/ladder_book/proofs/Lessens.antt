@@ -1,6 +1,6 @@
 -- An order cut out of its queue.
 use Rattle.std.proofs.Common.{◌≡◌, ℕ, zero, suc, ◌+◌, ◌-◌, ◌<◌, ◌≤◌, false, cond, eqb, List, [], ◌∷◌, ◌++◌, map, length, get_or, take, drop, set, sym, refl, ap, ◌∙◌, subst, inl, inr, add-one, arith}
-use Rattle.std.specs.List.{remove, AllByRecursion as All}
+use Rattle.std.specs.List.{remove, AllByRecursion}
 use Rattle.std.proofs.ByRecursion.{All-get_or}
 use Rattle.std.proofs.lemmas.List.{append-nil, drop-set, get_or-set_other, get_or-set_same, map-append, set_split}
 use Rattle.std.proofs.lemmas.Bool.{cases_Bool, cases_eq, cond_both, cond-false, cond-true, eq-eqb, eqb-false, eqb-true, ne_eqb}
@@ -164,7 +164,7 @@ module _ (side : Side) (orders : List Resting) (next free : List ℕ) (live : Li
       let N = bypassed next t after in
       let back = level_cut live k h in
       let x = shrunk l t after in
-      let p : All (Proper orders N) (x ∷ []) = (shrunk_proper ne, tt) in
+      let p : AllByRecursion (Proper orders N) (x ∷ []) = (shrunk_proper ne, tt) in
       let e : set live k x ≡ lo ++ x ∷ hi = set_split live k x h ∙ ap (λ n. lo ++ x ∷ drop n live) (sym (add-one k)) in
       let f = falls_put side lo hi l x refl sound.falls in
       subst (Cut side orders next free live t) (sym e) (

@@ -1,6 +1,6 @@
 -- Some levels in the middle replaced by others, and every other level as it was.
 use Rattle.std.proofs.Common.{◌≡◌, ℕ, ◌+◌, ◌<◌, ◌≤◌, false, ◌≢◌, List, [], ◌∷◌, ◌++◌, map, length, get_or, set, sym, refl, ap, ◌∙◌, subst, arith}
-use Rattle.std.specs.List.{remove, AllByRecursion as All}
+use Rattle.std.specs.List.{remove, AllByRecursion}
 use Rattle.std.proofs.ByRecursion.{All-append}
 use Rattle.std.proofs.lemmas.List.{append_assoc, get_or-set_other, get_or-set_same, length-append, length-map, map-append}
 use Rattle.ordered.proofs.Keeps.{keeps_order, removal_keeps}
@@ -39,7 +39,7 @@ module _ (orders O : List Resting) (next N : List ℕ) where
       ∙ ap (λ z. ids next ls ++ z) (walk_same next N l.size l.head (λ i g. f i (let a = occurs_append i (ids next ls) w in omega arith)))
 
   proper_same : (ls : List Level) → ((i : ℕ) → 1 ≤ occurs i (ids next ls) → get_or N i 0 ≡ get_or next i 0) → ((i : ℕ) → 1 ≤ occurs i (ids next ls) → at O i ≡ at orders i)
-      → All (Proper orders next) ls → All (Proper O N) ls
+      → AllByRecursion (Proper orders next) ls → AllByRecursion (Proper O N) ls
   proper_same [] f g p = tt
   proper_same (l ∷ ls) f g p =
       let w = queue next l in
@@ -59,7 +59,7 @@ module _ (side : Side) (orders : List Resting) (next N : List ℕ) (slot : ℕ) 
     (s : Sound side orders next free (lo ++ (M ++ hi)))
     (was : ids next M ≡ F ++ slot ∷ G) (is : ids N M' ≡ F ++ G)
     (same : (i : ℕ) → (1 ≤ occurs i (ids next M) → ⊥) → get_or N i 0 ≡ get_or next i 0)
-    (proper' : All (Proper orders N) M') (falls' : Falls side (lo ++ (M' ++ hi))) where
+    (proper' : AllByRecursion (Proper orders N) M') (falls' : Falls side (lo ++ (M' ++ hi))) where
   cut_from : ids next (lo ++ (M ++ hi)) ≡ (ids next hi ++ F) ++ slot ∷ (G ++ ids next lo)
   cut_from = ids_middle next lo M hi ∙ (ap (λ z. (ids next hi ++ z) ++ ids next lo) was ∙ regroup (ids next hi) F (slot ∷ G) (ids next lo))
 
@@ -129,8 +129,8 @@ module _ (side : Side) (orders : List Resting) (next N : List ℕ) (slot : ℕ) 
     (s : Sound side orders next (slot ∷ free) (lo ++ (M ++ hi))) (wide : length orders ≡ 128)
     (was : ids next M ≡ F ++ G) (is : ids N M' ≡ F ++ slot ∷ G)
     (same : (i : ℕ) → i ≢ slot → (1 ≤ occurs i (ids next M) → ⊥) → get_or N i 0 ≡ get_or next i 0)
-    (proper' : All (Proper (set orders slot o) N) M') (falls' : Falls side (lo ++ (M' ++ hi)))
-    (behind : All (λ x. ahead side o x ≡ false) (map (at orders) (ids next hi ++ F))) (before : Stops (ahead side) o (map (at orders) (G ++ ids next lo))) where
+    (proper' : AllByRecursion (Proper (set orders slot o) N) M') (falls' : Falls side (lo ++ (M' ++ hi)))
+    (behind : AllByRecursion (λ x. ahead side o x ≡ false) (map (at orders) (ids next hi ++ F))) (before : Stops (ahead side) o (map (at orders) (G ++ ids next lo))) where
   put_from : ids next (lo ++ (M ++ hi)) ≡ (ids next hi ++ F) ++ (G ++ ids next lo)
   put_from = ids_middle next lo M hi ∙ (ap (λ z. (ids next hi ++ z) ++ ids next lo) was ∙ regroup (ids next hi) F G (ids next lo))
 

@@ -1,6 +1,6 @@
 -- A level opened for an order.
 use Rattle.std.proofs.Common.{◌≡◌, ℕ, suc, ◌+◌, ◌-◌, ◌<◌, ◌≤◌, Bool, true, false, cond, not, eqb, List, [], ◌∷◌, ◌++◌, map, length, get_or, take, drop, set, sym, refl, ap, ◌∙◌, subst, inl, inr, arith}
-use Rattle.std.specs.List.{insert as inserted_at, AllByRecursion as All}
+use Rattle.std.specs.List.{insert as inserted_at, AllByRecursion}
 use Rattle.std.proofs.ByRecursion.{All-from_get_or, All-map, All-weaker}
 use Rattle.std.proofs.lemmas.List.{append-nil, get_or_default, get_or-drop, get_or-set_same, get_or-take, length-append, length-drop, length-map, length-take-le, map-append, take-append-drop}
 use Rattle.std.proofs.lemmas.Bool.{cases_eq, cond-false, ne_eqb, not-false, not_from_true}
@@ -41,7 +41,7 @@ only i slot h =
 
 module _ (side : Side) (orders : List Resting) (next free : List ℕ) (slot : ℕ) (lo hi : List Level) (o : Resting)
     (s : Sound side orders next (slot ∷ free) (lo ++ hi)) (wide : length orders ≡ 128) (low : slot < 128)
-    (better : All (λ l. ahead side (sign l) (bare o) ≡ true) hi) (worse : 0 < length lo → ahead side (bare o) (sign (ends nowhere lo)) ≡ true) where
+    (better : AllByRecursion (λ l. ahead side (sign l) (bare o) ≡ true) hi) (worse : 0 < length lo → ahead side (bare o) (sign (ends nowhere lo)) ≡ true) where
   abbrev x : Level
   x = alone o slot
 
@@ -52,7 +52,7 @@ module _ (side : Side) (orders : List Resting) (next free : List ℕ) (slot : �
   signs = subst (InOrder under) (map-append sign lo hi) s.falls
 
   -- worse than the last of the worse levels, so than them all
-  all_worse : All (λ z. under (bare o) z ≡ false) (map sign lo)
+  all_worse : AllByRecursion (λ z. under (bare o) z ≡ false) (map sign lo)
   all_worse =
       none_by_last under (λ a b c ab bc. not_from_true (ahead side a c) (transitive side a b c (not-false (ahead side a b) ab) (not-false (ahead side b c) bc))) (bare o) (sign nowhere) (map sign lo)
       (order_split under (map sign lo) (map sign hi) signs).0
@@ -70,11 +70,11 @@ module _ (side : Side) (orders : List Resting) (next free : List ℕ) (slot : �
     tailed = refl;
   }
 
-  parts : All (Proper orders next) lo × All (Proper orders next) hi
+  parts : AllByRecursion (Proper orders next) lo × AllByRecursion (Proper orders next) hi
   parts = all_parts (Proper orders next) lo hi s.proper
 
-  behind : All (λ z. ahead side o z ≡ false) (map (at orders) (ids next hi ++ []))
-  behind = subst (λ w. All (λ z. ahead side o z ≡ false) (map (at orders) w)) (sym (append-nil (ids next hi))) (better_behind side orders next o hi parts.1 better)
+  behind : AllByRecursion (λ z. ahead side o z ≡ false) (map (at orders) (ids next hi ++ []))
+  behind = subst (λ w. AllByRecursion (λ z. ahead side o z ≡ false) (map (at orders) w)) (sym (append-nil (ids next hi))) (better_behind side orders next o hi parts.1 better)
 
   before : Stops (ahead side) o (map (at orders) (ids next lo))
   before =
@@ -83,13 +83,13 @@ module _ (side : Side) (orders : List Resting) (next free : List ℕ) (slot : �
 
   pub open_put : Put side orders next free slot (lo ++ hi) o next (lo ++ x ∷ hi)
   open_put =
-      let p : All (Proper (set orders slot o) next) (x ∷ []) = (open_proper, tt) in (
+      let p : AllByRecursion (Proper (set orders slot o) next) (x ∷ []) = (open_proper, tt) in (
         put_list side orders next next slot free lo [] (x ∷ []) hi [] [] o s wide refl refl (λ i a b. refl) p falls_open behind before,
         put_count side orders next next slot free lo [] (x ∷ []) hi [] [] o s wide refl refl (λ i a b. refl) p falls_open behind before,
         put_sound side orders next next slot free lo [] (x ∷ []) hi [] [] o s wide refl refl (λ i a b. refl) p falls_open behind before,
       )
 
-levels_few : (orders : List Resting) (next : List ℕ) (ls : List Level) → All (Proper orders next) ls → length ls ≤ length (ids next ls)
+levels_few : (orders : List Resting) (next : List ℕ) (ls : List Level) → AllByRecursion (Proper orders next) ls → length ls ≤ length (ids next ls)
 levels_few orders next [] h = omega arith
 levels_few orders next (l ∷ ls) h =
     let a = length-append (ids next ls) (queue next l) in
@@ -126,7 +126,7 @@ module _ (s : Ladder) (place slot : ℕ) (o : Resting) (room : length (listed s)
   long : length live ≡ s.depth
   long = let t = s.tall in let n = s.long in length-take-le s.depth s.levels (omega arith)
 
-  all_better : All (λ l. ahead s.side (sign l) (bare o) ≡ true) (drop place live)
+  all_better : AllByRecursion (λ l. ahead s.side (sign l) (bare o) ≡ true) (drop place live)
   all_better =
       All-from_get_or (λ l. ahead s.side (sign l) (bare o) ≡ true) (drop place live) nowhere
       (λ i g.

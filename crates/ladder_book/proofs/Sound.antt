@@ -1,6 +1,6 @@
 -- What always holds of a side's arrays, as one record over the live levels and the free places.
 use Rattle.std.proofs.Common.{◌≡◌, ℕ, zero, suc, ◌+◌, ◌<◌, ◌≤◌, List, [], ◌∷◌, ◌++◌, map, length, get_or, take, drop, set, sym, refl, ap, ◌∙◌, subst, arith}
-use Rattle.std.specs.List.{AllByRecursion as All}
+use Rattle.std.specs.List.{AllByRecursion}
 use Rattle.std.proofs.ByRecursion.{All-get_or, All-from_get_or}
 use Rattle.std.proofs.lemmas.List.{append-nil, append_assoc, drop_more, get_or-take, length-append, length-map, length-take-le, map-append, take-append-drop}
 use Rattle.ordered.specs.Order.{InOrder}
@@ -22,7 +22,7 @@ pub record Proper (orders : List Resting) (next : List ℕ) (l : Level) : Type 0
 -- all of them
 pub record Sound (side : Side) (orders : List Resting) (next free : List ℕ) (live : List Level) : Type 0 where
   pub apart : (k : ℕ) → occurs k (ids next live ++ free) ≡ once k
-  pub proper : All (Proper orders next) live
+  pub proper : AllByRecursion (Proper orders next) live
   pub falls : Falls side live
   pub ordered : InOrder (ahead side) (book orders next live)
 

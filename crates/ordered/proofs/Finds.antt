@@ -1,7 +1,7 @@
 -- What the search for a key tells.
 use Rattle.std.proofs.Common.{◌≡◌, ℕ, zero, suc, ◌+◌, ◌-◌, ◌≤◌, Bool, true, false, List, [], ◌∷◌, Some, None, inl, inr, arith}
 use native.Mathlib.Nat.{sub-zero}
-use Rattle.std.specs.List.{AllByRecursion as All}
+use Rattle.std.specs.List.{AllByRecursion}
 use Rattle.std.proofs.lemmas.Bool.{cases_Bool}
 use Rattle.ordered.specs.Order.{first_place}
 
@@ -13,7 +13,7 @@ module _ {X : Type 0} (test : X → Bool) where
   Hits (x ∷ xs) (suc k) = (test x ≡ false) × Hits xs k
 
   abbrev pub Misses : List X → Type 0
-  Misses xs = All (λ x. test x ≡ false) xs
+  Misses xs = AllByRecursion (λ x. test x ≡ false) xs
 
   hits_from : (i : ℕ) (xs : List X) (k : ℕ) → first_place test i xs ≡ Some k → (i ≤ k) × Hits xs (k - i)
   hits_from i [] k h = absurd (grind arith)

@@ -1,7 +1,7 @@
 -- Fills worked by hand from the rule, each against what the definition reckons.
 use Rattle.std.specs.Prelude.{◌≡◌, ℕ, List, [], ◌∷◌, Some, None, Option}
 use Rattle.std.specs.Option.{option_map}
-use Rattle.std.specs.List.{AllByRecursion as All}
+use Rattle.std.specs.List.{AllByRecursion}
 use Rattle.quotes.specs.Fills.{fills, volumes}
 use Rattle.quotes.specs.declared.quote_side.QuoteSide.{QuoteSide}
 use Rattle.quotes.specs.declared.quote_side.Volumes.{Volumes}
@@ -36,4 +36,4 @@ abbrev pub ComesOut : Row → Type 0
 ComesOut w = option_map volumes (fills w.shares w.side) ≡ w.after
 
 abbrev pub RefillsHold : Type 0
-RefillsHold = All ComesOut rows
+RefillsHold = AllByRecursion ComesOut rows
