@@ -2,7 +2,7 @@
 ghost use Rattle.std.specs.Prelude.{◌≡◌, true, false, []};
 ghost use Rattle.book.specs.Sides.{on};
 ghost use Rattle.ladder_book.specs.Listed.{listed};
-ghost use Rattle.std.proofs.Common.{rules, arith};
+ghost use Rattle.std.proofs.Common.{rules};
 
 use crate::ladder::Ladder;
 use book::{Book, Fault, Position, ReadBook, Resting, Side};
@@ -11,7 +11,7 @@ use book::{Book, Fault, Position, ReadBook, Resting, Side};
 pub struct LadderBook {
     bids: Ladder,
     asks: Ladder,
-    // Each ladder is of its own side. (As a test: an equation of another crate's enum is not taken in a ghost field.)
+    // Each ladder is of its own side.
     ghost buys: { on bids.side true false ≡ true },
     ghost sells: { on asks.side false true ≡ true },
 }
@@ -49,7 +49,7 @@ impl ReadBook for LadderBook {
 }
 
 impl Book for LadderBook {
-    ghost few = { first_of (Prim.search rules, Prim.grind (arith, Self.row.coded.inj)) };
+    ghost few = { Prim.search rules };
 
     fn empty(&mut self) {
         self.bids.clear();
