@@ -5,8 +5,8 @@ in camel case, no dash inside a name.
 usage: python3 tools/respell.py     at the top of the repository, once
 
 A name is respelled where a file of specs/ or proofs/ of this repository declares it: by a signature, a record's field, a section's
-parameter or a let. Names of the library and names that the check makes (of goals, steps and their fields) stay. Comments, strings and
-the names of src/ are not touched. It stops, and writes nothing, where two names would fall together in one file.
+parameter or a let. Names of the library and names that the check makes (of goals, steps and their fields) stay, and so do comments; the
+names of src/ have no dash. It stops, and writes nothing, where two names would fall together in one file.
 """
 import collections
 import os
