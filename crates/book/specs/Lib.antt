@@ -3,7 +3,9 @@ pub mod Priority
 pub mod Samples
 pub mod Priorities
 pub mod Listed
+pub mod Reading
 pub mod Faults
 pub mod Lists
 pub mod Keeping
 pub mod Ranks
+pub mod Signs

@@ -1,6 +1,6 @@
 -- What each call of a book answers, and what it makes of a side's list.
-use Rattle.std.specs.Prelude.{ℕ, ◌+◌, ◌-◌, Bool, cond, ◌&&◌, List, [], ◌∷◌, length, Some, None, Ok, Err, Option, Result, ◌==◌, nat_le, nat_lt}
-use Rattle.std.specs.List.{remove, slice_get}
+use Rattle.std.specs.Prelude.{ℕ, ◌-◌, Bool, cond, ◌&&◌, List, [], ◌∷◌, length, Some, None, Ok, Err, Option, Result, ◌==◌, nat_le, nat_lt}
+use Rattle.std.specs.List.{position_from, remove, slice_get}
 use Rattle.ordered.specs.Order.{inserted}
 use Rattle.book.specs.Priority.{ahead}
 use Rattle.book.specs.Sides.{on}
@@ -41,13 +41,11 @@ taken v [] = []
 taken v (o ∷ os) = cond (fits v o) (cond (v == o.volume) os (lowered v o ∷ os)) (o ∷ os)
 
 -- Find: the first place of a number, where the list begins at place i; bids before asks.
-abbrev pub placed : (number i : ℕ) → List Resting → Option ℕ
-placed n i [] = None
-placed n i (o ∷ os) = cond (o.number == n) (Some i) (placed n (i + 1) os)
-
--- as a key of a record: whether an order has the number
 abbrev pub has_number : ℕ → Resting → Bool
 has_number n o = o.number == n
+
+abbrev pub placed : (number i : ℕ) → List Resting → Option ℕ
+placed n i os = position_from (has_number n) i os
 
 abbrev pub position : (bid ask : Option ℕ) → Result Position Fault
 position (Some i) ask = Ok (record { side = Bid; place = i })

@@ -1,7 +1,9 @@
 -- The two sides of a book, and what each finds better.
-use Rattle.std.specs.Prelude.{ℕ, Bool, cond, Some, None, Option, ◌==◌, nat_le, nat_lt}
+use Rattle.std.specs.Prelude.{ℕ, Bool, cond, Some, None, Option, Result, ◌==◌, nat_le, nat_lt}
+use Rattle.std.specs.Option.{ok_or}
 use Rattle.book.specs.declared.side.Side.{Side}
 use Rattle.book.specs.declared.side.Side.TheVariants.{Bid, Ask}
+use Rattle.book.specs.declared.side.UnknownSide.{UnknownSide}
 
 -- as a field tells it: 0 the bids, 1 the asks
 abbrev pub sided : ℕ → Side
@@ -9,6 +11,10 @@ sided n = cond (n == 0) Bid Ask
 
 abbrev pub numbered : ℕ → Option Side
 numbered n = cond (nat_le n 1) (Some (sided n)) None
+
+-- any other number is handed back
+abbrev pub told : ℕ → Result Side UnknownSide
+told n = ok_or (numbered n) (record { 0 = n })
 
 abbrev pub opposite : Side → Side
 opposite Bid = Ask

@@ -5,6 +5,7 @@ ghost use Rattle.book.specs.Ranks;
 
 use crate::resting::Resting;
 use crate::side::Side;
+use crate::sign::Sign;
 use ordered::{Keyed, Ordered};
 
 impl Ordered<Side> for Resting {
@@ -17,11 +18,9 @@ impl Ordered<Side> for Resting {
     ghost ranked = { Ranks.ranked };
 
     fn is_ahead(&self, other: &Resting, side: Side) -> bool {
-        if self.limit != other.limit {
-            return side.better(self.limit, other.limit);
-        }
-        if self.visible != other.visible {
-            return self.visible;
+        let (sign, others) = (Sign::from(*self), Sign::from(*other));
+        if sign != others {
+            return sign.is_ahead(&others, side);
         }
         self.number < other.number
     }

@@ -1,6 +1,9 @@
 // The two sides of a book. A buying order's own side is the bids, a selling one's the asks.
-ghost use Rattle.std.specs.Prelude.{◌≡◌};
-ghost use Rattle.book.specs.Sides.{better, numbered, opposite, reaches};
+ghost use Rattle.std.specs.Prelude.{◌≡◌, ◌++◌, Some, codes, decimal};
+ghost use Rattle.book.specs.Sides.{better, opposite, reaches, told};
+
+use std::error::Error;
+use std::fmt;
 
 #[derive(Clone, Copy, PartialEq, Eq, Debug)]
 pub enum Side {
@@ -8,18 +11,36 @@ pub enum Side {
     Ask,
 }
 
-impl Side {
+// A number that tells no side.
+#[derive(Clone, Copy, PartialEq, Eq, Debug)]
+pub struct UnknownSide(pub u64);
+
+impl TryFrom<u64> for Side {
+    type Error = UnknownSide;
+
+    ghost try_from_gives = { λ number r. r ≡ told number };
+
     // The side that a field tells: 0 the bids, 1 the asks.
-    pub fn numbered(number: u64) -> Option<Side>
-        ensures { result ≡ numbered number }
-    {
+    fn try_from(number: u64) -> Result<Side, UnknownSide> {
         match number {
-            0 => Some(Side::Bid),
-            1 => Some(Side::Ask),
-            _ => None,
+            0 => Ok(Side::Bid),
+            1 => Ok(Side::Ask),
+            _ => Err(UnknownSide(number)),
         }
     }
+}
 
+impl fmt::Display for UnknownSide {
+    ghost output = { λ unknown. Some (decimal unknown.0 ++ codes " tells no side") };
+
+    fn fmt<W: fmt::Write>(&self, f: &mut fmt::Formatter<W>) -> fmt::Result {
+        write!(f, "{} tells no side", self.0)
+    }
+}
+
+impl Error for UnknownSide {}
+
+impl Side {
     pub fn opposite(self) -> Side
         ensures { result ≡ opposite self }
     {

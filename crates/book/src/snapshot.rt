@@ -1,6 +1,5 @@
 // A book that can only be read: two lists that the caller lends.
 ghost use Rattle.std.specs.Prelude.{◌≡◌};
-ghost use Rattle.std.specs.List.{slice_get};
 ghost use Rattle.book.specs.Sides.{on};
 
 use crate::read::ReadBook;
@@ -14,7 +13,7 @@ pub struct Snapshot<'a> {
 }
 
 impl<'a> Snapshot<'a> {
-    fn orders(&self, side: Side) -> &'a [Resting]
+    fn listed(&self, side: Side) -> &'a [Resting]
         ensures { result.now ≡ on side self.now.bids.now self.now.asks.now }
     {
         match side {
@@ -24,22 +23,16 @@ impl<'a> Snapshot<'a> {
     }
 }
 
-fn order_at(orders: &[Resting], place: usize) -> Option<Resting>
-    ensures { result ≡ slice_get orders.now place }
-{
-    orders.get(place).copied()
-}
-
 impl<'a> ReadBook for Snapshot<'a> {
     ghost bids = { λ b. b.bids.now };
 
     ghost asks = { λ b. b.asks.now };
 
     fn count(&self, side: Side) -> usize {
-        self.orders(side).len()
+        self.listed(side).len()
     }
 
     fn look(&self, side: Side, place: usize) -> Option<Resting> {
-        order_at(self.orders(side), place)
+        self.listed(side).get(place).copied()
     }
 }

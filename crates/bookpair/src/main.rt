@@ -2,20 +2,16 @@
 // every answer and both sides after every call. It ends with an error where they differ.
 #![tactic(auto)]
 
-mod draw;
-mod levels;
-mod plain;
-mod tally;
-mod trial;
+mod level;
 
-use anyhow::anyhow;
-use book::{Book, ReadBook, Side};
+use book::{Orders, ReadBook, Side};
+use booktrial::{Both, Phase, Rivals, Trial};
 use euro::Euro;
+use itertools::Itertools;
 use ladder_book::LadderBook;
-use levels::level_from;
+use level::Level;
 use list_book::ListBook;
-use std::alloc::Global;
-use trial::Trial;
+use std::io::Print;
 
 // Orders alone, until both sides are full and past it; then calls of every kind; then, on the emptied books, more of them.
 const FILLING: u32 = 280;
@@ -24,75 +20,55 @@ const MIXED: u32 = 2_500;
 
 const AFTER: u32 = 1_220;
 
-fn fill<A: Book, B: Book>(heap: Global, trial: &mut Trial<A, B>) -> anyhow::Result<()> {
-    for turn in 0..FILLING {
-        if !trial.enter()? || !trial.alike() {
-            return Err(anyhow!(format!(in heap; "the books differ at order {turn}")?));
-        }
-    }
-    Ok(())
-}
-
-fn mix<A: Book, B: Book>(heap: Global, trial: &mut Trial<A, B>, calls: u32) -> anyhow::Result<()> {
-    for turn in 0..calls {
-        if !trial.call()? || !trial.alike() {
-            return Err(anyhow!(format!(in heap; "the books differ at call {turn} of {calls}")?));
-        }
-    }
-    Ok(())
-}
-
-// The first levels of each side.
-fn print_levels<B: ReadBook>(rt: &HostRuntime, name: &str, book: &B) -> anyhow::Result<()> {
-    println!(rt; "{name}, the first levels of its bids and asks:")?;
-    print_side(rt, book, Side::Bid)?;
-    print_side(rt, book, Side::Ask)
-}
-
-fn print_side<B: ReadBook>(rt: &HostRuntime, book: &B, side: Side) -> anyhow::Result<()> {
-    let mut place: usize = 0;
-    for _ in 0..3 {
-        let Some(level) = level_from(book, side, place) else {
-            break;
-        };
-        println!(rt;
-            "  at {} orders {:>2}, shares {:>4}",
-            Euro(level.limit as u64),
-            level.orders,
-            level.shares
-        )?;
-        place = place.saturating_add(level.orders);
-    }
-    Ok(())
-}
-
-fn run(rt: &HostRuntime) -> anyhow::Result<()> {
-    let heap = rt.alloc();
-    let mut trial = Trial::new(heap, ListBook::new(), LadderBook::new());
-    fill(heap, &mut trial)?;
-    mix(heap, &mut trial, MIXED)?;
-    if !trial.empty()? {
-        return Err(anyhow!("the books differ when they are empty"));
-    }
-    mix(heap, &mut trial, AFTER)?;
+// Each program has a summary, and a run, of its own: few lines, with other words and numbers.
+fn print_tally<R: Rivals>(rt: &impl Print, trial: &Trial<R>) -> anyhow::Result<()> {
     let tally = trial.tally;
     println!(rt;
         "calls: enter {}, take {}, remove {}, find {}, empty 1",
-        tally.enters, tally.takes, tally.removes, tally.finds
+        tally.enters.calls, tally.takes.calls, tally.removes.calls, tally.finds.calls
     )?;
     println!(rt;
         "refused: enter {} (side full), take {} (volume), remove {} and find {} (number unknown)",
-        tally.refused_enters, tally.refused_takes, tally.refused_removes, tally.refused_finds
+        tally.enters.refused, tally.takes.refused, tally.removes.refused, tally.finds.refused
     )?;
     println!(rt;
         "After every call, the answers and both sides of the list and the ladder were those of the plain book."
     )?;
     println!(rt;
         "Place times number times volume, over all orders after every call: {}",
-        tally.weight
+        trial.weight
     )?;
-    print_levels(rt, "The ordered list", &trial.list)?;
-    print_levels(rt, "The ladder", &trial.ladder)
+    Ok(())
+}
+
+// The first levels of each side.
+fn print_levels<B: ReadBook>(rt: &impl Print, name: &str, book: &B) -> anyhow::Result<()> {
+    println!(rt; "{name}, the first levels of its bids and asks:")?;
+    for side in [Side::Bid, Side::Ask] {
+        let levels = Orders::of(book, side)
+            .map(Level::of)
+            .coalesce(Level::joined);
+        for level in levels.take(3) {
+            println!(rt;
+                "  at {} orders {:>2}, shares {:>4}",
+                Euro(level.limit as u64),
+                level.orders,
+                level.shares
+            )?;
+        }
+    }
+    Ok(())
+}
+
+fn run(rt: &impl Print) -> anyhow::Result<()> {
+    let mut trial = Trial::new(Both::new(ListBook::new(), LadderBook::new()));
+    trial.play(Phase::Orders, FILLING)?;
+    trial.play(Phase::Calls, MIXED)?;
+    trial.empty()?;
+    trial.play(Phase::Calls, AFTER)?;
+    print_tally(rt, &trial)?;
+    print_levels(rt, "The ordered list", &trial.books.first)?;
+    print_levels(rt, "The ladder", &trial.books.second)
 }
 
 fn main(rt: HostRuntime) -> anyhow::Result<()> {

@@ -11,7 +11,8 @@ use ladder_book::LadderBook;
 use list_book::ListBook;
 use script::Kind;
 use std::env;
-use timing::tenths;
+use std::rt::{Clock, Env};
+use timing::Timing;
 
 const KINDS: [Kind; 5] = [
     Kind::EnterBest,
@@ -22,22 +23,27 @@ const KINDS: [Kind; 5] = [
 ];
 
 fn print_line<B: Book + Copy>(
-    rt: &HostRuntime,
+    rt: &(impl Clock + Print),
     name: &str,
     book: B,
     kind: Kind,
     rounds: u32,
 ) -> anyhow::Result<()> {
-    print!(rt; "{:<18} {name:<6}", kind.name())?;
+    print!(rt; "{kind:<18} {name:<6}")?;
     for depth in [8, 32, 128] {
-        let spent = tenths(rt, book, kind, depth, rounds)?;
+        let timing = Timing {
+            kind,
+            depth,
+            rounds,
+        };
+        let spent = timing.tenths(rt, book)?;
         print!(rt; " {:>4}.{}", spent / 10, spent % 10)?;
     }
     println!(rt; "")?;
     Ok(())
 }
 
-fn print_times(rt: &HostRuntime, rounds: u32) -> anyhow::Result<()> {
+fn print_times(rt: &(impl Clock + Print), rounds: u32) -> anyhow::Result<()> {
     println!(rt; "nanoseconds a call         at 8  at 32 at 128 orders, on 3 limits")?;
     for kind in KINDS {
         print_line(rt, "list", ListBook::new(), kind, rounds)?;
@@ -46,7 +52,7 @@ fn print_times(rt: &HostRuntime, rounds: u32) -> anyhow::Result<()> {
     Ok(())
 }
 
-fn run(rt: &HostRuntime) -> anyhow::Result<()> {
+fn run(rt: &(impl Alloc + Clock + Env + Print)) -> anyhow::Result<()> {
     let mut words = env::args(rt)?;
     let Some(rounds) = words.nth(1) else {
         println!(rt;

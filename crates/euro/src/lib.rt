@@ -3,6 +3,7 @@
 
 mod amount;
 mod sums;
+mod written;
 
 pub use amount::Euro;
 pub use sums::{gain, ten_thousandths};

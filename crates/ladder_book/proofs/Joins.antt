@@ -5,21 +5,23 @@ use Rattle.std.proofs.ByRecursion.{All-append, All-get_or}
 use Rattle.std.proofs.lemmas.List.{drop_more, get_or-set_other, get_or-set_same, length-map, length-set, map-append, set_split}
 use Rattle.std.proofs.lemmas.Bool.{cases_eq, cond_both, cond-false, cond-true, eq-eqb, eqb-false, ne_eqb}
 use Rattle.ordered.specs.Order.{InOrder, inserted}
+use Rattle.ordered.specs.Bounded.{items}
 use Rattle.book.specs.Ranks.{ranked}
 use Rattle.book.specs.Priority.{ahead}
 use Rattle.book.specs.declared.resting.Resting.{Resting}
 use Rattle.book.specs.declared.side.Side.{Side}
 use Rattle.ladder_book.specs.declared.ladder.Ladder.{Ladder}
 use Rattle.ladder_book.specs.declared.level.Level.{Level}
+use Rattle.ladder_book.specs.declared.level.Node.{Node}
 use Rattle.ladder_book.specs.declared.level.Seat.{Seat}
 use Rattle.ladder_book.specs.Levels.{grown, linked, Stands}
-use Rattle.ladder_book.specs.Listed.{level_of, listed, live_levels, Seated}
-use Rattle.ladder_book.specs.Queues.{at, bare, book, ends, hop, ids, level_at, nobody, nowhere, occurs, queue, sign, walk}
-use Rattle.ladder_book.proofs.Middles.{put_count, put_list, put_sound, regroup}
+use Rattle.ladder_book.specs.Listed.{level_of, listed, Seated}
+use Rattle.ladder_book.specs.Queues.{at, bare, book, ends, hop, ids, level_at, nexts, nobody, nowhere, occurs, queue, records, sign, walk}
+use Rattle.ladder_book.proofs.Middles.{Put, put, regroup}
 use Rattle.ladder_book.proofs.Orders.{Stops, all_parts, none_by_last, order_split, stops_all}
 use Rattle.ladder_book.proofs.Places.{apart_from_last, ends_any, ends_append, ends_map, ends_walk, hop_in, length_walk, occurs_append, occurs_self, once_most, plus, plus_is, unlike, walk_same, walk_split, walk_turned}
 use Rattle.ladder_book.proofs.Signs.{better_behind, falls_above, falls_below, worse_before}
-use Rattle.ladder_book.proofs.Sound.{Given, Proper, Sound, held_places, ids_cut, level_cut, live_level, live_long, opened, shut, falls_put, take_of_set}
+use Rattle.ladder_book.proofs.Sound.{Given, Proper, Sound, held_places, ids_cut, level_cut, nexts_long, opened, records_long, shut, falls_put}
 
 walk_from : (N : List ℕ) (m a b : ℕ) → (0 < m → a ≡ b) → walk N m a ≡ walk N m b
 walk_from N zero a b e = refl
@@ -69,13 +71,6 @@ link_tail F G passed m slot tail size all n is =
       | inl q ↦ cond-true _ _ _ (eq-eqb passed size q) ∙ (none_behind G slot (omega arith) ∙ sym (ends_append 0 F (slot ∷ G)))
       | inr q ↦ cond-false _ _ _ (ne_eqb passed size q) ∙ (is ∙ (ends_append 0 F G ∙ (ends_any (ends 0 F) slot G (omega arith) ∙ sym (ends_append 0 F (slot ∷ G)))))
     ]
-
--- what is wanted of the levels that an order was put into
-abbrev pub Put : Side → List Resting → (next free : List ℕ) → ℕ → List Level → Resting → List ℕ → List Level → Type 0
-Put side orders next free slot live o N more =
-    (book (set orders slot o) N more ≡ inserted (ahead side) o (book orders next live))
-    × (length (ids N more) ≡ length (ids next live) + 1)
-    × Sound side (set orders slot o) N free more
 
 module _ (side : Side) (orders : List Resting) (next free : List ℕ) (slot : ℕ) (live : List Level) (o : Resting) (t : Seat)
     (s : Sound side orders next (slot ∷ free) live) (wide : length orders ≡ 128) (links : length next ≡ 128) (low : slot < 128)
@@ -214,56 +209,41 @@ module _ (side : Side) (orders : List Resting) (next free : List ℕ) (slot : �
       let e : set live k x ≡ lo ++ x ∷ hi = set_split live k x h ∙ ap (λ n. lo ++ x ∷ drop n live) (sym (add-one k)) in
       let f = falls_put side lo hi l x refl sound.falls in
       let p : AllByRecursion (Proper (set orders slot o) N) (x ∷ []) = (grown_proper, tt) in
-      subst (Put side orders next free slot live o N) (sym e) (
-        put_list side orders next N slot free lo (l ∷ []) (x ∷ []) hi F G o sound wide was is same p f behind before ∙ ap (λ z. inserted (ahead side) o (book orders next z)) (sym back),
-        put_count side orders next N slot free lo (l ∷ []) (x ∷ []) hi F G o sound wide was is same p f behind before ∙ ap (λ z. length (ids next z) + 1) (sym back),
-        put_sound side orders next N slot free lo (l ∷ []) (x ∷ []) hi F G o sound wide was is same p f behind before,
-      )
+      subst (λ z. Put side orders next free slot z o N (set live k x)) (sym back)
+      (subst (Put side orders next free slot (lo ++ l ∷ hi) o N) (sym e) (put side orders next N slot free lo (l ∷ []) (x ∷ []) hi F G o sound wide was is same p f behind before))
 
 -- a side with an order put in
 module _ (s : Ladder) (slot : ℕ) (o : Resting) (room : length (listed s) < 128) (places : length s.slots ≡ 128) (first : slot ≡ get_or s.slots s.count 0) where
   pub free_cut : drop s.count s.slots ≡ slot ∷ drop (s.count + 1) s.slots
   free_cut = let n = s.held in drop_more s.slots s.count 0 (omega arith) ∙ ap (λ x. x ∷ drop (s.count + 1) s.slots) (sym first)
 
-  pub spare_sound : Sound s.side s.orders s.next (slot ∷ drop (s.count + 1) s.slots) (take s.depth s.levels)
-  spare_sound = subst (λ f. Sound s.side s.orders s.next f (take s.depth s.levels)) free_cut (opened s)
+  pub spare_sound : Sound s.side (records s.places) (nexts s.places) (slot ∷ drop (s.count + 1) s.slots) (items s.levels)
+  spare_sound = subst (λ f. Sound s.side (records s.places) (nexts s.places) f (items s.levels)) free_cut (opened s)
 
-  module _ (N : List ℕ) (levels more : List Level) (depth : ℕ) (p : Put s.side s.orders s.next (drop (s.count + 1) s.slots) slot (take s.depth s.levels) o N more) (el : take depth levels ≡ more) where
-    pub put_given : length levels ≡ 128 → depth ≤ 128 → Given s.side (set s.orders slot o) N s.slots levels (s.count + 1) depth
-    put_given n few =
+  module _ (ps : List Node) (eo : records ps ≡ set (records s.places) slot o) (N : List ℕ) (en : nexts ps ≡ N) (shown more : List Level)
+      (p : Put s.side (records s.places) (nexts s.places) (drop (s.count + 1) s.slots) slot (items s.levels) o N more) (el : shown ≡ more) where
+    pub put_given : Given s.side ps s.slots (s.count + 1) shown
+    put_given =
         let a = p.1 in
         let b = held_places s in
         let l = s.held in
-        shut s.side (set s.orders slot o) N s.slots (drop (s.count + 1) s.slots) levels more (s.count + 1) depth
-        (length-set s.orders slot o ∙ s.wide) n (omega arith) few el refl (omega arith) p.2
+        shut s.side ps (set (records s.places) slot o) N s.slots (drop (s.count + 1) s.slots) (s.count + 1) shown more
+        eo en (length-set (records s.places) slot o ∙ records_long s) (omega arith) el refl (omega arith) p.2
 
-    pub put_listed : book (set s.orders slot o) N (take depth levels) ≡ inserted (ahead s.side) o (listed s)
-    put_listed = ap (book (set s.orders slot o) N) el ∙ p.0
+    pub put_listed : book (records ps) (nexts ps) shown ≡ inserted (ahead s.side) o (listed s)
+    put_listed = ap (book (records ps) (nexts ps)) el ∙ (ap (λ z. book z (nexts ps) more) eo ∙ (ap (λ z. book (set (records s.places) slot o) z more) en ∙ p.0))
 
 module _ (s : Ladder) (t : Seat) (slot : ℕ) (o : Resting) (room : length (listed s) < 128) (seated : Seated s o t) (key : sign (level_of s t) ≡ bare o)
-    (links : length s.next ≡ 128) (places : length s.slots ≡ 128) (first : slot ≡ get_or s.slots s.count 0) (low : slot < 128)
-    (N : List ℕ) (x : Level) (en : N ≡ linked s.next t slot) (ex : x ≡ grown (level_of s t) t slot) where
-  abbrev live : List Level
-  live = live_levels s
-
-  abbrev more : List Level
-  more = set live t.level (grown (level_at live t.level) t slot)
-
-  in_queue : Put s.side s.orders s.next (drop (s.count + 1) s.slots) slot live o N more
+    (places : length s.slots ≡ 128) (first : slot ≡ get_or s.slots s.count 0) (low : slot < 128)
+    (ps : List Node) (eo : records ps ≡ set (records s.places) slot o) (en : nexts ps ≡ linked (nexts s.places) t slot) (shown : List Level) (el : shown ≡ set (items s.levels) t.level (grown (level_of s t) t slot)) where
+  in_queue : Put s.side (records s.places) (nexts s.places) (drop (s.count + 1) s.slots) slot (items s.levels) o (linked (nexts s.places) t slot) (set (items s.levels) t.level (grown (level_of s t) t slot))
   in_queue =
       let a = seated.sits in
-      let n = live_long s t.level a.level in
-      let h = a.level in
-      let e = live_level s t.level h in
-      subst (λ z. Put s.side s.orders s.next (drop (s.count + 1) s.slots) slot live o z more) (sym en)
-      (joined s.side s.orders s.next (drop (s.count + 1) s.slots) slot live o t (spare_sound s slot o room places first) s.wide links low (omega arith) (ap sign e ∙ key)
-      (subst (λ l. Stands s.next l t) (sym e) a.stands) seated.behind (subst (λ l. t.passed < l.size → ahead s.side o (at s.orders t.place) ≡ true) (sym e) seated.before))
+      joined s.side (records s.places) (nexts s.places) (drop (s.count + 1) s.slots) slot (items s.levels) o t (spare_sound s slot o room places first) (records_long s) (nexts_long s) low a.level key
+      a.stands seated.behind seated.before
 
-  levels_are : take s.depth (set s.levels t.level x) ≡ more
-  levels_are = take_of_set s.depth s.levels t.level x ∙ ap (set live t.level) (ex ∙ ap (λ l. grown l t slot) (sym (live_level s t.level seated.sits.level)))
+  pub join_given : Given s.side ps s.slots (s.count + 1) shown
+  join_given = put_given s slot o room places first ps eo _ en shown _ in_queue el
 
-  pub join_given : Given s.side (set s.orders slot o) N s.slots (set s.levels t.level x) (s.count + 1) s.depth
-  join_given = put_given s slot o room places first N (set s.levels t.level x) more s.depth in_queue levels_are (length-set s.levels t.level x ∙ s.long) s.tall
-
-  pub join_list : book (set s.orders slot o) N (take s.depth (set s.levels t.level x)) ≡ inserted (ahead s.side) o (listed s)
-  join_list = put_listed s slot o room places first N (set s.levels t.level x) more s.depth in_queue levels_are
+  pub join_list : book (records ps) (nexts ps) shown ≡ inserted (ahead s.side) o (listed s)
+  join_list = put_listed s slot o room places first ps eo _ en shown _ in_queue el

@@ -1,12 +1,13 @@
 mod Empties
-mod Finds
 mod Firsts
 mod Joins
+mod Nodes
 mod Lessens
 mod Middles
 mod Opens
 mod Orders
 mod Places
 mod Seats
+mod Walks
 mod Signs
 mod Sound

@@ -21,6 +21,10 @@ ids_middle next lo M hi = ids_append next lo (M ++ hi) ∙ ap (λ z. z ++ ids ne
 pub regroup : {X : Type 0} (a f g b : List X) → (a ++ (f ++ g)) ++ b ≡ (a ++ f) ++ (g ++ b)
 regroup a f g b = simp append_assoc
 
+-- the places of all levels, where those of the middle are F and R
+places_are : (next : List ℕ) (lo M hi : List Level) (F R : List ℕ) → ids next M ≡ F ++ R → ids next (lo ++ (M ++ hi)) ≡ (ids next hi ++ F) ++ (R ++ ids next lo)
+places_are next lo M hi F R e = ids_middle next lo M hi ∙ (ap (λ z. (ids next hi ++ z) ++ ids next lo) e ∙ regroup (ids next hi) F R (ids next lo))
+
 proper_one : (orders O : List Resting) (next N : List ℕ) (l : Level) → Proper orders next l → queue N l ≡ queue next l
     → ((i : ℕ) → 1 ≤ occurs i (queue next l) → at O i ≡ at orders i) → Proper O N l
 proper_one orders O next N l p q f = record {
@@ -54,6 +58,18 @@ map_set orders j r (x ∷ xs) e =
     let ne : x ≢ j = unlike x j (x ∷ xs) (omega arith) e in
     ap (λ o. o ∷ map (at (set orders j r)) xs) (get_or-set_other orders j x r nobody ne) ∙ ap (λ l. at orders x ∷ l) (map_set orders j r xs (rest_none j x xs e))
 
+-- what is wanted of the levels that are left without the order at a slot, which was the n-th
+abbrev pub Cut : Side → List Resting → (next free : List ℕ) → ℕ → List Level → ℕ → List ℕ → List Level → Type 0
+Cut side orders next free slot live n N rest =
+    (book orders N rest ≡ remove (book orders next live) n) × (length (ids N rest) + 1 ≡ length (ids next live)) × Sound side orders N (slot ∷ free) rest
+
+-- what is wanted of the levels that an order was put into, at a slot
+abbrev pub Put : Side → List Resting → (next free : List ℕ) → ℕ → List Level → Resting → List ℕ → List Level → Type 0
+Put side orders next free slot live o N more =
+    (book (set orders slot o) N more ≡ inserted (ahead side) o (book orders next live))
+    × (length (ids N more) ≡ length (ids next live) + 1)
+    × Sound side (set orders slot o) N free more
+
 -- An order cut out: the middle's places were F, the slot, G, and are F, G.
 module _ (side : Side) (orders : List Resting) (next N : List ℕ) (slot : ℕ) (free : List ℕ) (lo M M' hi : List Level) (F G : List ℕ)
     (s : Sound side orders next free (lo ++ (M ++ hi)))
@@ -61,7 +77,7 @@ module _ (side : Side) (orders : List Resting) (next N : List ℕ) (slot : ℕ) 
     (same : (i : ℕ) → (1 ≤ occurs i (ids next M) → ⊥) → get_or N i 0 ≡ get_or next i 0)
     (proper' : AllByRecursion (Proper orders N) M') (falls' : Falls side (lo ++ (M' ++ hi))) where
   cut_from : ids next (lo ++ (M ++ hi)) ≡ (ids next hi ++ F) ++ slot ∷ (G ++ ids next lo)
-  cut_from = ids_middle next lo M hi ∙ (ap (λ z. (ids next hi ++ z) ++ ids next lo) was ∙ regroup (ids next hi) F (slot ∷ G) (ids next lo))
+  cut_from = places_are next lo M hi F (slot ∷ G) was
 
   three : (i : ℕ) → occurs i (ids next hi) + occurs i (ids next M) + occurs i (ids next lo) ≤ 1
   three i =
@@ -83,10 +99,9 @@ module _ (side : Side) (orders : List Resting) (next N : List ℕ) (slot : ℕ) 
   cut_to =
       let a = ids_same orders orders next N hi hi_links in
       let b = ids_same orders orders next N lo lo_links in
-      ids_middle N lo M' hi ∙ (ap (λ z. (z ++ ids N M') ++ ids N lo) a ∙ (ap (λ z. (ids next hi ++ ids N M') ++ z) b
-      ∙ (ap (λ z. (ids next hi ++ z) ++ ids next lo) is ∙ regroup (ids next hi) F G (ids next lo))))
+      places_are N lo M' hi F G is ∙ (ap (λ z. (z ++ F) ++ (G ++ ids N lo)) a ∙ ap (λ z. (ids next hi ++ F) ++ (G ++ z)) b)
 
-  pub cut_list : (n : ℕ) → length (ids next hi) + length F ≡ n → book orders N (lo ++ (M' ++ hi)) ≡ remove (book orders next (lo ++ (M ++ hi))) n
+  cut_list : (n : ℕ) → length (ids next hi) + length F ≡ n → book orders N (lo ++ (M' ++ hi)) ≡ remove (book orders next (lo ++ (M ++ hi))) n
   cut_list n e =
       let P = ids next hi ++ F in
       let Q = G ++ ids next lo in
@@ -95,7 +110,7 @@ module _ (side : Side) (orders : List Resting) (next N : List ℕ) (slot : ℕ) 
       let b = length-map P f in
       ap (map f) cut_to ∙ (map-append f P Q ∙ sym (ap (λ z. remove (map f z) n) cut_from ∙ (ap (λ z. remove z n) (map-append f P (slot ∷ Q)) ∙ removed_at (map f P) (f slot) (map f Q) n (omega arith))))
 
-  pub cut_count : length (ids N (lo ++ (M' ++ hi))) + 1 ≡ length (ids next (lo ++ (M ++ hi)))
+  cut_count : length (ids N (lo ++ (M' ++ hi))) + 1 ≡ length (ids next (lo ++ (M ++ hi)))
   cut_count =
       let P = ids next hi ++ F in
       let Q = G ++ ids next lo in
@@ -105,7 +120,7 @@ module _ (side : Side) (orders : List Resting) (next N : List ℕ) (slot : ℕ) 
       let e = ap length cut_from in
       omega arith
 
-  pub cut_sound : Sound side orders N (slot ∷ free) (lo ++ (M' ++ hi))
+  cut_sound : Sound side orders N (slot ∷ free) (lo ++ (M' ++ hi))
   cut_sound =
       let P = ids next hi ++ F in
       let Q = G ++ ids next lo in
@@ -124,6 +139,9 @@ module _ (side : Side) (orders : List Resting) (next N : List ℕ) (slot : ℕ) 
         ordered = subst (InOrder (ahead side)) (sym (cut_list (length (ids next hi) + length F) refl)) (removal_keeps (ahead side) (book orders next (lo ++ (M ++ hi))) (length (ids next hi) + length F) s.ordered);
       }
 
+  pub cut : (n : ℕ) → length (ids next hi) + length F ≡ n → Cut side orders next free slot (lo ++ (M ++ hi)) n N (lo ++ (M' ++ hi))
+  cut n e = (cut_list n e, cut_count, cut_sound)
+
 -- An order put in: the middle's places were F, G, and are F, the slot, G.
 module _ (side : Side) (orders : List Resting) (next N : List ℕ) (slot : ℕ) (free : List ℕ) (lo M M' hi : List Level) (F G : List ℕ) (o : Resting)
     (s : Sound side orders next (slot ∷ free) (lo ++ (M ++ hi))) (wide : length orders ≡ 128)
@@ -132,7 +150,7 @@ module _ (side : Side) (orders : List Resting) (next N : List ℕ) (slot : ℕ) 
     (proper' : AllByRecursion (Proper (set orders slot o) N) M') (falls' : Falls side (lo ++ (M' ++ hi)))
     (behind : AllByRecursion (λ x. ahead side o x ≡ false) (map (at orders) (ids next hi ++ F))) (before : Stops (ahead side) o (map (at orders) (G ++ ids next lo))) where
   put_from : ids next (lo ++ (M ++ hi)) ≡ (ids next hi ++ F) ++ (G ++ ids next lo)
-  put_from = ids_middle next lo M hi ∙ (ap (λ z. (ids next hi ++ z) ++ ids next lo) was ∙ regroup (ids next hi) F G (ids next lo))
+  put_from = places_are next lo M hi F G was
 
   four : (i : ℕ) → occurs i (ids next hi) + occurs i (ids next M) + occurs i (ids next lo) + occurs i (slot ∷ free) ≡ once i
   four i =
@@ -159,10 +177,9 @@ module _ (side : Side) (orders : List Resting) (next N : List ℕ) (slot : ℕ) 
   put_to =
       let a = ids_same orders orders next N hi hi_kept in
       let b = ids_same orders orders next N lo lo_kept in
-      ids_middle N lo M' hi ∙ (ap (λ z. (z ++ ids N M') ++ ids N lo) a ∙ (ap (λ z. (ids next hi ++ ids N M') ++ z) b
-      ∙ (ap (λ z. (ids next hi ++ z) ++ ids next lo) is ∙ regroup (ids next hi) F (slot ∷ G) (ids next lo))))
+      places_are N lo M' hi F (slot ∷ G) is ∙ (ap (λ z. (z ++ F) ++ slot ∷ (G ++ ids N lo)) a ∙ ap (λ z. (ids next hi ++ F) ++ slot ∷ (G ++ z)) b)
 
-  pub put_list : book (set orders slot o) N (lo ++ (M' ++ hi)) ≡ inserted (ahead side) o (book orders next (lo ++ (M ++ hi)))
+  put_list : book (set orders slot o) N (lo ++ (M' ++ hi)) ≡ inserted (ahead side) o (book orders next (lo ++ (M ++ hi)))
   put_list =
       let A = ids next hi in
       let B = ids next lo in
@@ -182,7 +199,7 @@ module _ (side : Side) (orders : List Resting) (next N : List ℕ) (slot : ℕ) 
       ∙ (ap (λ x. map f P ++ x ∷ map g Q) (get_or-set_same orders slot o nobody (omega arith)) ∙ (ap (λ z. map f P ++ o ∷ z) (map_set orders slot o Q (omega arith))
       ∙ sym (ap (λ z. inserted (ahead side) o (map f z)) put_from ∙ (ap (inserted (ahead side) o) (map-append f P Q) ∙ inserted_between (ahead side) o (map f P) (map f Q) behind before))))))
 
-  pub put_count : length (ids N (lo ++ (M' ++ hi))) ≡ length (ids next (lo ++ (M ++ hi))) + 1
+  put_count : length (ids N (lo ++ (M' ++ hi))) ≡ length (ids next (lo ++ (M ++ hi))) + 1
   put_count =
       let P = ids next hi ++ F in
       let Q = G ++ ids next lo in
@@ -192,7 +209,7 @@ module _ (side : Side) (orders : List Resting) (next N : List ℕ) (slot : ℕ) 
       let e = ap length put_from in
       omega arith
 
-  pub put_sound : Sound side (set orders slot o) N free (lo ++ (M' ++ hi))
+  put_sound : Sound side (set orders slot o) N free (lo ++ (M' ++ hi))
   put_sound =
       let P = ids next hi ++ F in
       let Q = G ++ ids next lo in
@@ -213,3 +230,6 @@ module _ (side : Side) (orders : List Resting) (next N : List ℕ) (slot : ℕ) 
         falls = falls';
         ordered = subst (InOrder (ahead side)) (sym put_list) (keeps_order (ahead side) (irreflexive side) (transitive side) o (book orders next (lo ++ (M ++ hi))) s.ordered);
       }
+
+  pub put : Put side orders next free slot (lo ++ (M ++ hi)) o N (lo ++ (M' ++ hi))
+  put = (put_list, put_count, put_sound)

@@ -1,26 +1,28 @@
 -- A level opened for an order.
-use Rattle.std.proofs.Common.{◌≡◌, ℕ, suc, ◌+◌, ◌-◌, ◌<◌, ◌≤◌, Bool, true, false, cond, not, eqb, List, [], ◌∷◌, ◌++◌, map, length, get_or, take, drop, set, sym, refl, ap, ◌∙◌, subst, inl, inr, arith}
+use Rattle.std.proofs.Common.{◌≡◌, ℕ, suc, ◌+◌, ◌-◌, ◌<◌, ◌≤◌, Bool, true, false, cond, not, List, [], ◌∷◌, ◌++◌, map, length, get_or, take, drop, set, sym, refl, ap, ◌∙◌, subst, arith}
 use Rattle.std.specs.List.{insert as inserted_at, AllByRecursion}
 use Rattle.std.proofs.ByRecursion.{All-from_get_or, All-map, All-weaker}
 use Rattle.std.proofs.lemmas.List.{append-nil, get_or_default, get_or-drop, get_or-set_same, get_or-take, length-append, length-drop, length-map, length-take-le, map-append, take-append-drop}
-use Rattle.std.proofs.lemmas.Bool.{cases_eq, cond-false, ne_eqb, not-false, not_from_true}
-use Rattle.ordered.proofs.Slides.{kept_risen, risen}
+use Rattle.std.proofs.lemmas.Bool.Decides.{nat_tests}
+use Rattle.std.proofs.lemmas.Bool.{cond-true, lt-ltb, not-false, not_from_true}
 use Rattle.ordered.specs.Order.{InOrder, inserted}
+use Rattle.ordered.specs.Bounded.{has_room, items}
 use Rattle.book.specs.Ranks.{transitive}
 use Rattle.book.specs.Priority.{ahead}
 use Rattle.book.specs.declared.resting.Resting.{Resting}
 use Rattle.book.specs.declared.side.Side.{Side}
 use Rattle.ladder_book.specs.declared.ladder.Ladder.{Ladder}
 use Rattle.ladder_book.specs.declared.level.Level.{Level}
-use Rattle.ladder_book.specs.Levels.{alone, widened}
+use Rattle.ladder_book.specs.declared.level.Node.{Node}
+use Rattle.ladder_book.specs.Levels.{alone}
 use Rattle.ladder_book.specs.Listed.{listed}
-use Rattle.ladder_book.specs.Queues.{at, bare, book, ends, Falls, ids, level_at, nobody, nowhere, occurs, queue, sign}
-use Rattle.ladder_book.proofs.Joins.{Put, put_given, put_listed, spare_sound}
-use Rattle.ladder_book.proofs.Middles.{put_count, put_list, put_sound}
+use Rattle.ladder_book.specs.Queues.{at, bare, book, ends, Falls, ids, level_at, nexts, nobody, nowhere, occurs, queue, records, sign}
+use Rattle.ladder_book.proofs.Joins.{put_given, put_listed, spare_sound}
+use Rattle.ladder_book.proofs.Middles.{Put, put}
 use Rattle.ladder_book.proofs.Orders.{Stops, all_parts, all_unmap, none_by_last, order_put, order_split, stops_all}
 use Rattle.ladder_book.proofs.Places.{ends_map, length_walk}
 use Rattle.ladder_book.proofs.Signs.{better_behind, worse_before}
-use Rattle.ladder_book.proofs.Sound.{Given, Proper, Sound, held_places, opened}
+use Rattle.ladder_book.proofs.Sound.{Given, Proper, Sound, held_places, opened, records_long}
 
 -- the last of a list by its place
 ends_get_or : {X : Type 0} (d : X) (xs : List X) → 0 < length xs → ends d xs ≡ get_or xs (length xs - 1) d
@@ -33,11 +35,7 @@ ends_get_or d (x ∷ y ∷ ys) h =
 
 -- the one place of a walk of one step
 only : (i slot : ℕ) → 1 ≤ occurs i (slot ∷ []) → i ≡ slot
-only i slot h =
-    elim (cases_eq i slot) [
-      | inl e ↦ e
-      | inr e ↦ absurd (let y : ◌≡◌ {A = ℕ} (cond (eqb i slot) 1 0) 0 = cond-false (eqb i slot) 1 0 (ne_eqb i slot e) in let u : occurs i (slot ∷ []) ≡ cond (eqb i slot) 1 0 + 0 = refl in omega arith)
-    ]
+only i slot h = grind (arith, nat_tests)
 
 module _ (side : Side) (orders : List Resting) (next free : List ℕ) (slot : ℕ) (lo hi : List Level) (o : Resting)
     (s : Sound side orders next (slot ∷ free) (lo ++ hi)) (wide : length orders ≡ 128) (low : slot < 128)
@@ -83,11 +81,7 @@ module _ (side : Side) (orders : List Resting) (next free : List ℕ) (slot : �
 
   pub open_put : Put side orders next free slot (lo ++ hi) o next (lo ++ x ∷ hi)
   open_put =
-      let p : AllByRecursion (Proper (set orders slot o) next) (x ∷ []) = (open_proper, tt) in (
-        put_list side orders next next slot free lo [] (x ∷ []) hi [] [] o s wide refl refl (λ i a b. refl) p falls_open behind before,
-        put_count side orders next next slot free lo [] (x ∷ []) hi [] [] o s wide refl refl (λ i a b. refl) p falls_open behind before,
-        put_sound side orders next next slot free lo [] (x ∷ []) hi [] [] o s wide refl refl (λ i a b. refl) p falls_open behind before,
-      )
+      put side orders next next slot free lo [] (x ∷ []) hi [] [] o s wide refl refl (λ i a b. refl) (open_proper, tt) falls_open behind before
 
 levels_few : (orders : List Resting) (next : List ℕ) (ls : List Level) → AllByRecursion (Proper orders next) ls → length ls ≤ length (ids next ls)
 levels_few orders next [] h = omega arith
@@ -99,59 +93,50 @@ levels_few orders next (l ∷ ls) h =
     omega arith
 
 -- each level holds an order
-pub depth_few : (s : Ladder) → s.depth ≤ s.count
-depth_few s =
-    let t = s.tall in
-    let n = s.long in
-    let live = take s.depth s.levels in
-    let long = length-take-le s.depth s.levels (omega arith) in
-    let f = levels_few s.orders s.next live (opened s).proper in
-    let h = held_places s in
-    omega arith
+pub depth_few : (s : Ladder) → length (items s.levels) ≤ s.count
+depth_few s = let f = levels_few (records s.places) (nexts s.places) (items s.levels) (opened s).proper in let h = held_places s in omega arith
 
-module _ (s : Ladder) (place slot : ℕ) (o : Resting) (room : length (listed s) < 128) (h : place ≤ s.depth) (places : length s.slots ≡ 128) (first : slot ≡ get_or s.slots s.count 0) (low : slot < 128)
-    (better : (k : ℕ) → place ≤ k → k < s.depth → ahead s.side (sign (level_at s.levels k)) (bare o) ≡ true)
-    (worse : 0 < place → ahead s.side (bare o) (sign (level_at s.levels (place - 1))) ≡ true)
-    (levels : List Level) (y : Level) (ey : y ≡ alone o slot) (ew : levels ≡ widened s.levels s.depth place y) where
-  el : take (s.depth + 1) levels ≡ inserted_at (take s.depth s.levels) place (alone o slot)
-  el =
-      let n = s.long in
-      let few = depth_few s in
-      let c = s.held in
-      kept_risen s.levels s.depth place h (omega arith) y levels _ (ew ∙ risen s.levels s.depth place h (omega arith) y _ refl) ∙ ap (inserted_at (take s.depth s.levels) place) ey
-
+module _ (s : Ladder) (place slot : ℕ) (o : Resting) (room : length (listed s) < 128) (h : place ≤ length (items s.levels)) (places : length s.slots ≡ 128) (first : slot ≡ get_or s.slots s.count 0) (low : slot < 128)
+    (better : (k : ℕ) → place ≤ k → k < length (items s.levels) → ahead s.side (sign (level_at (items s.levels) k)) (bare o) ≡ true)
+    (worse : 0 < place → ahead s.side (bare o) (sign (level_at (items s.levels) (place - 1))) ≡ true) where
   abbrev live : List Level
-  live = take s.depth s.levels
+  live = items s.levels
 
-  long : length live ≡ s.depth
-  long = let t = s.tall in let n = s.long in length-take-le s.depth s.levels (omega arith)
+  abbrev more : List Level
+  more = inserted_at live place (alone o slot)
 
   all_better : AllByRecursion (λ l. ahead s.side (sign l) (bare o) ≡ true) (drop place live)
   all_better =
       All-from_get_or (λ l. ahead s.side (sign l) (bare o) ≡ true) (drop place live) nowhere
       (λ i g.
-      let n = long in
       let m = length-drop place live in
-      ap (λ l. ahead s.side (sign l) (bare o)) (get_or-drop place live i nowhere ∙ get_or-take s.depth s.levels (place + i) nowhere (omega arith)) ∙ better (place + i) (omega arith) (omega arith))
+      ap (λ l. ahead s.side (sign l) (bare o)) (get_or-drop place live i nowhere) ∙ better (place + i) (omega arith) (omega arith))
 
   last_worse : 0 < length (take place live) → ahead s.side (bare o) (sign (ends nowhere (take place live))) ≡ true
   last_worse g =
-      let n = long in
       let m = length-take-le place live (omega arith) in
       let e : length (take place live) - 1 ≡ place - 1 = omega arith in
       ap (λ l. ahead s.side (bare o) (sign l))
-      (ends_get_or nowhere (take place live) g ∙ (ap (λ i. get_or (take place live) i nowhere) e ∙ (get_or-take place live (place - 1) nowhere (omega arith) ∙ get_or-take s.depth s.levels (place - 1) nowhere (omega arith))))
+      (ends_get_or nowhere (take place live) g ∙ (ap (λ i. get_or (take place live) i nowhere) e ∙ get_or-take place live (place - 1) nowhere (omega arith)))
       ∙ worse (omega arith)
 
-  in_level : Put s.side s.orders s.next (drop (s.count + 1) s.slots) slot live o s.next (inserted_at live place (alone o slot))
+  in_level : Put s.side (records s.places) (nexts s.places) (drop (s.count + 1) s.slots) slot live o (nexts s.places) more
   in_level =
       let whole = take-append-drop place live in
       let free = drop (s.count + 1) s.slots in
-      subst (λ z. Put s.side s.orders s.next free slot z o s.next (inserted_at live place (alone o slot))) whole
-      (open_put s.side s.orders s.next free slot (take place live) (drop place live) o (subst (Sound s.side s.orders s.next (slot ∷ free)) (sym whole) (spare_sound s slot o room places first)) s.wide low all_better last_worse)
+      subst (λ z. Put s.side (records s.places) (nexts s.places) free slot z o (nexts s.places) more) whole
+      (open_put s.side (records s.places) (nexts s.places) free slot (take place live) (drop place live) o (subst (Sound s.side (records s.places) (nexts s.places) (slot ∷ free)) (sym whole) (spare_sound s slot o room places first)) (records_long s) low all_better last_worse)
 
-  pub open_given : length levels ≡ 128 → Given s.side (set s.orders slot o) s.next s.slots levels (s.count + 1) (s.depth + 1)
-  open_given n = put_given s slot o room places first s.next levels (inserted_at live place (alone o slot)) (s.depth + 1) in_level el n (let f = depth_few s in let l = s.held in omega arith)
+  module _ (ps : List Node) (eo : records ps ≡ set (records s.places) slot o) (en : nexts ps ≡ nexts s.places) (y : Level) (ey : y ≡ alone o slot)
+      (shown : List Level) (el : shown ≡ cond (has_room 128 live) (inserted_at live place y) live) where
+    put_in : shown ≡ more
+    put_in =
+        let f = depth_few s in
+        let l = s.held in
+        el ∙ (cond-true (has_room 128 live) (inserted_at live place y) live (lt-ltb (length live) 128 (omega arith)) ∙ ap (inserted_at live place) ey)
 
-  pub open_list : book (set s.orders slot o) s.next (take (s.depth + 1) levels) ≡ inserted (ahead s.side) o (listed s)
-  open_list = put_listed s slot o room places first s.next levels (inserted_at live place (alone o slot)) (s.depth + 1) in_level el
+    pub open_given : Given s.side ps s.slots (s.count + 1) shown
+    open_given = put_given s slot o room places first ps eo _ en shown more in_level put_in
+
+    pub open_list : book (records ps) (nexts ps) shown ≡ inserted (ahead s.side) o (listed s)
+    open_list = put_listed s slot o room places first ps eo _ en shown more in_level put_in

@@ -1,6 +1,7 @@
 -- Lists in order, taken apart and put together; a record behind those that it is not ahead of.
-use Rattle.std.proofs.Common.{◌≡◌, ℕ, zero, suc, ◌<◌, Bool, true, false, not, List, [], ◌∷◌, ◌++◌, map, length, refl, ap, ◌∙◌, arith}
+use Rattle.std.proofs.Common.{◌≡◌, ℕ, ◌-◌, ◌<◌, Bool, true, false, not, List, [], ◌∷◌, ◌++◌, map, length, refl, ap, ◌∙◌, arith}
 use Rattle.std.specs.List.{remove, AllByRecursion}
+use Rattle.std.proofs.lemmas.List.Edits.{remove-append_right}
 use Rattle.std.proofs.lemmas.Bool.{and_from, and_parts, cond-true, cond-false, not_from_false, not-true}
 use Rattle.ordered.proofs.Keeps.{order_parts}
 use Rattle.ordered.specs.Order.{InOrder, in_order, inserted, none_ahead}
@@ -15,10 +16,7 @@ all_unmap P f [] h = tt
 all_unmap P f (x ∷ xs) h = (h.0, all_unmap P f xs h.1)
 
 pub removed_at : {X : Type 0} (xs : List X) (y : X) (ys : List X) (n : ℕ) → length xs ≡ n → remove (xs ++ y ∷ ys) n ≡ xs ++ ys
-removed_at [] y ys zero e = refl
-removed_at [] y ys (suc n) e = absurd (omega arith)
-removed_at (x ∷ xs) y ys zero e = absurd (omega arith)
-removed_at (x ∷ xs) y ys (suc n) e = ap (λ l. x ∷ l) (removed_at xs y ys n (omega arith))
+removed_at xs y ys n e = let z : n - n ≡ 0 = omega arith in remove-append_right xs (y ∷ ys) n n e (omega arith) ∙ ap (λ i. xs ++ remove (y ∷ ys) i) z
 
 module _ {X : Type 0} (a : X → X → Bool) where
   none_split : (x : X) (xs ys : List X) → none_ahead a x (xs ++ ys) ≡ true → (none_ahead a x xs ≡ true) × (none_ahead a x ys ≡ true)

@@ -1,6 +1,6 @@
 -- How often a place comes, and walks along links.
-use Rattle.std.proofs.Common.{◌≡◌, ℕ, zero, suc, ◌+◌, ◌<◌, ◌≤◌, cond, eqb, ltb, ◌≢◌, List, [], ◌∷◌, ◌++◌, map, length, get_or, sym, refl, ap, ◌∙◌, ⊎_elim, arith}
-use Rattle.std.proofs.lemmas.Bool.{cond-true, cond-false, eq-eqb, cases_lt, lt-ltb, le-ltb}
+use Rattle.std.proofs.Common.{◌≡◌, ℕ, zero, suc, ◌+◌, ◌<◌, ◌≤◌, cond, eqb, ◌≢◌, List, [], ◌∷◌, ◌++◌, map, length, get_or, sym, refl, ap, ◌∙◌, arith}
+use Rattle.std.proofs.lemmas.Bool.Decides.{nat_tests}
 use Rattle.ladder_book.specs.Queues.{walk, hop, ends, occurs, once}
 
 pub occurs_append : (k : ℕ) (xs ys : List ℕ) → occurs k (xs ++ ys) ≡ occurs k xs + occurs k ys
@@ -8,7 +8,7 @@ occurs_append k [] ys = omega arith
 occurs_append k (x ∷ xs) ys = omega (arith, occurs_append k xs ys)
 
 pub occurs_self : (x : ℕ) (xs : List ℕ) → occurs x (x ∷ xs) ≡ 1 + occurs x xs
-occurs_self x xs = ap (λ n. n + occurs x xs) (cond-true (eqb x x) 1 0 (eq-eqb x x refl))
+occurs_self x xs = grind (arith, nat_tests)
 
 pub later_in : (k x : ℕ) (xs : List ℕ) → 1 ≤ occurs k xs → 1 ≤ occurs k (x ∷ xs)
 later_in k x xs h = let e : occurs k (x ∷ xs) ≡ cond (eqb k x) 1 0 + occurs k xs = refl in omega arith
@@ -21,12 +21,10 @@ pub unlike : (k x : ℕ) (xs : List ℕ) → 1 ≤ occurs k xs → occurs x xs �
 unlike k x xs h e q = let z : occurs k xs ≡ occurs x xs = ap (λ n. occurs n xs) q in omega arith
 
 pub once_most : (k : ℕ) → once k ≤ 1
-once_most k =
-    ⊎_elim (λ h. let e : once k ≡ 1 = cond-true (ltb k 128) 1 0 (lt-ltb k 128 h) in omega arith)
-    (λ h. let e : once k ≡ 0 = cond-false (ltb k 128) 1 0 (le-ltb k 128 h) in omega arith) (cases_lt k 128)
+once_most k = grind (arith, nat_tests)
 
 pub once_low : (k : ℕ) → 1 ≤ once k → k < 128
-once_low k e = ⊎_elim (λ h. h) (λ h. let z : once k ≡ 0 = cond-false (ltb k 128) 1 0 (le-ltb k 128 h) in omega arith) (cases_lt k 128)
+once_low k e = grind (arith, nat_tests)
 
 -- a sum that computes from the left
 abbrev pub plus : ℕ → ℕ → ℕ

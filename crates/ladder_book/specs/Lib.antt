@@ -1,3 +1,4 @@
 pub mod Queues
 pub mod Levels
 pub mod Listed
+pub mod Walks

@@ -5,6 +5,15 @@ use Rattle.book.specs.Priority.{ahead}
 use Rattle.book.specs.declared.resting.Resting.{Resting}
 use Rattle.book.specs.declared.side.Side.{Side}
 use Rattle.ladder_book.specs.declared.level.Level.{Level}
+use Rattle.ladder_book.specs.declared.level.Node.{Node}
+use Rattle.book.specs.Signs.{like, sign_of}
+
+-- what stands at the places: their orders, and the places that they lead on to
+abbrev pub records : List Node → List Resting
+records ps = map (λ p. p.order) ps
+
+abbrev pub nexts : List Node → List ℕ
+nexts ps = map (λ p. p.next) ps
 
 -- n places from h on, each followed by what `next` holds there
 abbrev pub walk : List ℕ → ℕ → ℕ → List ℕ
@@ -45,8 +54,11 @@ sizes (l ∷ ls) = sizes ls + l.size
 abbrev pub nobody : Resting
 nobody = record { number = 0; member = 0; limit = 0; volume = 0; visible = false }
 
+abbrev pub vacant : Node
+vacant = record { order = nobody; next = 0 }
+
 abbrev pub nowhere : Level
-nowhere = record { limit = 0; visible = false; head = 0; tail = 0; size = 0 }
+nowhere = record { sign = record { limit = 0; visible = false }; head = 0; tail = 0; size = 0 }
 
 abbrev pub at : List Resting → ℕ → Resting
 at orders i = slice_index_or orders i nobody
@@ -60,10 +72,10 @@ book orders next live = map (at orders) (ids next live)
 
 -- an order's limit and mark alone, and a level's
 abbrev pub bare : Resting → Resting
-bare o = record { number = 0; member = 0; limit = o.limit; volume = 0; visible = o.visible }
+bare o = like (sign_of o)
 
 abbrev pub sign : Level → Resting
-sign l = record { number = 0; member = 0; limit = l.limit; volume = 0; visible = l.visible }
+sign l = like l.sign
 
 -- each level has a better limit than those before it in the array, or the same limit and is visible where they are hidden
 abbrev pub Falls : Side → List Level → Type 0

@@ -1,20 +1,20 @@
 // The links of a queue and the levels, changed in their arrays.
 ghost use Rattle.std.specs.Prelude.{◌≡◌, ℕ, ◌+◌, ◌-◌, ◌<◌, ◌≤◌, length, slice_index, slice_set};
-ghost use Rattle.ladder_book.specs.Queues.{level_at};
-ghost use Rattle.ladder_book.specs.Levels.{bypassed, closed, grown, lessened, linked, remaining, shrunk, widened};
+ghost use Rattle.ordered.specs.Bounded.{items};
+ghost use Rattle.ladder_book.specs.Queues.{level_at, nexts, records};
+ghost use Rattle.ladder_book.specs.Levels.{led, lessened, linked};
 
 use crate::ladder::CAPACITY;
-use crate::level::{Level, Seat};
+use crate::level::{Level, Node, Seat};
+use book::Resting;
+use ordered::BoundedList;
+use std::array::from_fn;
 
 // Every place, in order.
 pub(crate) fn places() -> [usize; CAPACITY]
     ensures { (k : ℕ) → k < 128 → slice_index result k ≡ k }
 {
-    let mut all = [0; CAPACITY];
-    for i in 0..CAPACITY {
-        all[i] = i;
-    }
-    all
+    from_fn(|place| place)
 }
 
 // Gives a place back to the free ones, those from `count` on; answers where they begin then.
@@ -29,94 +29,53 @@ pub(crate) fn give_back(slots: &mut [usize], count: usize, place: usize) -> usiz
     free
 }
 
-// Links a slot into a queue at a seat.
-pub(crate) fn link(next: &mut [usize], seat: Seat, slot: usize)
-    requires slot { slot < length next.old }
-    requires last { 0 < seat.passed → seat.last < length next.old }
-    ensures { next.new ≡ linked next.old seat slot }
+// Writes an order at a place.
+#[tactic(auto, using(crate::proofs::Nodes::records_set, crate::proofs::Nodes::nexts_same))]
+pub(crate) fn put(places: &mut [Node], place: usize, order: Resting)
+    requires { place < length places.old }
+    ensures orders { records places.new ≡ slice_set (records places.old) place order }
+    ensures next { nexts places.new ≡ nexts places.old }
 {
-    next[slot] = seat.place;
-    if seat.passed > 0 {
-        next[seat.last] = slot;
-    }
+    places[place].order = order;
 }
 
-// The level with a slot linked in.
-pub(crate) fn grow(level: Level, seat: Seat, slot: usize) -> Level
-    requires { level.size < 128 }
-    ensures { result ≡ grown level seat slot }
-{
-    Level {
-        head: if seat.passed == 0 { slot } else { level.head },
-        tail: if seat.passed == level.size {
-            slot
-        } else {
-            level.tail
-        },
-        size: level.size + 1,
-        ..level
-    }
-}
-
-// Links past the place at a seat, which `after` follows.
-pub(crate) fn bypass(next: &mut [usize], seat: Seat, after: usize)
-    requires { 0 < seat.passed → seat.last < length next.old }
-    ensures { next.new ≡ bypassed next.old seat after }
+// Leads the last in front of a seat, if there is one, on to a place.
+#[tactic(auto, using(crate::proofs::Nodes::records_same, crate::proofs::Nodes::nexts_set))]
+pub(crate) fn lead(places: &mut [Node], seat: Seat, place: usize)
+    requires { 0 < seat.passed → seat.last < length places.old }
+    ensures orders { records places.new ≡ records places.old }
+    ensures next { nexts places.new ≡ led (nexts places.old) seat place }
 {
     if seat.passed > 0 {
-        next[seat.last] = after;
+        places[seat.last].next = place;
     }
 }
 
-// The level with that place bypassed.
-fn shrink(level: Level, seat: Seat, after: usize) -> Level
-    requires { seat.passed < level.size }
-    ensures { result ≡ shrunk level seat after }
+// Writes an order at a place, linked into a queue at a seat.
+#[tactic(auto, using(crate::proofs::Nodes::records_set, crate::proofs::Nodes::nexts_set))]
+pub(crate) fn link(places: &mut [Node], seat: Seat, place: usize, order: Resting)
+    requires place { place < length places.old }
+    requires last { 0 < seat.passed → seat.last < length places.old }
+    ensures orders { records places.new ≡ slice_set (records places.old) place order }
+    ensures next { nexts places.new ≡ linked (nexts places.old) seat place }
 {
-    Level {
-        head: if seat.passed == 0 { after } else { level.head },
-        tail: if seat.passed + 1 == level.size {
-            seat.last
-        } else {
-            level.tail
-        },
-        size: level.size - 1,
-        ..level
-    }
+    places[place] = Node {
+        order,
+        next: seat.place,
+    };
+    lead(places, seat, place);
 }
 
-// Moves the levels from a place on up by one, and writes another there.
-pub(crate) fn widen(levels: &mut [Level], depth: usize, place: usize, level: Level)
-    requires place { place ≤ depth }
-    requires depth { depth < length levels.old }
-    ensures { levels.new ≡ widened levels.old depth place level }
+// Takes an order at a seat out of its level, and the level out with its last order.
+pub(crate) fn lessen(levels: &mut BoundedList<Level, CAPACITY>, seat: Seat, after: usize)
+    requires level { seat.level < length (items levels.old) }
+    requires seat { seat.passed < (level_at (items levels.old) seat.level).size }
+    ensures { items levels.new ≡ lessened (items levels.old) seat after }
 {
-    levels.copy_within(place..depth, place + 1);
-    levels[place] = level;
-}
-
-// Moves the levels behind a place down over it.
-fn close(levels: &mut [Level], depth: usize, place: usize)
-    requires place { place < depth }
-    requires depth { depth ≤ length levels.old }
-    ensures { levels.new ≡ closed levels.old depth place }
-{
-    levels.copy_within(place + 1..depth, place);
-}
-
-// Takes an order at a seat out of its level, and the level out with its last order; answers how many levels there are then.
-pub(crate) fn lessen(levels: &mut [Level], depth: usize, seat: Seat, after: usize) -> usize
-    requires depth { depth ≤ length levels.old }
-    requires level { seat.level < depth }
-    requires seat { seat.passed < (level_at levels.old seat.level).size }
-    ensures depth { result ≡ remaining levels.old depth seat }
-    ensures levels { levels.new ≡ lessened levels.old depth seat after }
-{
-    let level = levels[seat.level];
+    let level = levels.as_slice()[seat.level];
     if level.size == 1 {
-        close(levels, depth, seat.level);
-        return depth - 1;
+        levels.remove(seat.level);
+    } else {
+        levels.set(seat.level, level.shrunk(seat, after));
     }
-    levels[seat.level] = shrink(level, seat, after);
-    depth
 }

@@ -1,8 +1,8 @@
 // The ordered list: a book that keeps each side's orders in an array, best first.
 #![tactic(auto)]
 
-mod list;
 mod row;
-mod row_calls;
 
-pub use list::ListBook;
+pub use row::Row;
+
+pub type ListBook = two_sided::TwoSided<Row>;

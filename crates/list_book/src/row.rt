@@ -1,14 +1,60 @@
-// The orders of one side: the first `used` of the slots.
-ghost use Rattle.std.specs.Prelude.{◌≡◌, ◌≤◌, length};
+// The orders of one side, the first by priority first.
+ghost use Rattle.ordered.specs.Bounded.{items};
+ghost use Rattle.std.proofs.Common.{rules};
 
-use book::Resting;
+use book::{Fault, Resting, Side};
+use ordered::BoundedList;
+use two_sided::BookSide;
 
-pub const CAPACITY: usize = 128;
+const CAPACITY: usize = 128;
 
 #[derive(Clone, Copy)]
 pub struct Row {
-    pub slots: [Resting; CAPACITY],
-    pub used: usize,
-    ghost long: { length slots ≡ 128 },
-    ghost few: { used ≤ 128 },
+    side: Side,
+    orders: BoundedList<Resting, CAPACITY>,
+}
+
+impl BookSide for Row {
+    ghost own = { λ row. row.side };
+
+    ghost orders = { λ row. items row.orders };
+
+    ghost few = { Prim.search rules };
+
+    fn new(side: Side) -> Row {
+        Row {
+            side,
+            orders: BoundedList::new(),
+        }
+    }
+
+    fn clear(&mut self) {
+        self.orders.clear();
+    }
+
+    fn count(&self) -> usize {
+        self.orders.len()
+    }
+
+    fn look(&self, place: usize) -> Option<Resting> {
+        self.orders.get(place)
+    }
+
+    fn find(&self, number: u32) -> Option<usize> {
+        self.orders.find(number)
+    }
+
+    fn enter(&mut self, order: Resting) -> Result<(), Fault> {
+        Ok(self.orders.insert(order, self.side)?)
+    }
+
+    fn take_out(&mut self, place: usize) -> Option<Resting> {
+        self.orders.remove(place)
+    }
+
+    fn resize_first(&mut self, volume: u32) {
+        if let Some(first) = self.orders.get(0) {
+            self.orders.set(0, Resting { volume, ..first });
+        }
+    }
 }

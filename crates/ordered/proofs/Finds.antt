@@ -3,7 +3,7 @@ use Rattle.std.proofs.Common.{◌≡◌, ℕ, zero, suc, ◌+◌, ◌-◌, ◌�
 use native.Mathlib.Nat.{sub-zero}
 use Rattle.std.specs.List.{AllByRecursion}
 use Rattle.std.proofs.lemmas.Bool.{cases_Bool}
-use Rattle.ordered.specs.Order.{first_place}
+use Rattle.std.specs.List.{position_from}
 
 module _ {X : Type 0} (test : X → Bool) where
   -- the record at place k passes, and none before it
@@ -15,7 +15,7 @@ module _ {X : Type 0} (test : X → Bool) where
   abbrev pub Misses : List X → Type 0
   Misses xs = AllByRecursion (λ x. test x ≡ false) xs
 
-  hits_from : (i : ℕ) (xs : List X) (k : ℕ) → first_place test i xs ≡ Some k → (i ≤ k) × Hits xs (k - i)
+  hits_from : (i : ℕ) (xs : List X) (k : ℕ) → position_from test i xs ≡ Some k → (i ≤ k) × Hits xs (k - i)
   hits_from i [] k h = absurd (grind arith)
   hits_from i (x ∷ xs) k h =
       elim (cases_Bool (test x)) [
@@ -30,7 +30,7 @@ module _ {X : Type 0} (test : X → Bool) where
             (omega (arith, ih.0), rw z (t, ih.1))
       ]
 
-  misses_from : (i : ℕ) (xs : List X) → first_place test i xs ≡ None → Misses xs
+  misses_from : (i : ℕ) (xs : List X) → position_from test i xs ≡ None → Misses xs
   misses_from i [] h = tt
   misses_from i (x ∷ xs) h =
       elim (cases_Bool (test x)) [
@@ -38,8 +38,8 @@ module _ {X : Type 0} (test : X → Bool) where
         | inr t ↦ (t, misses_from (i + 1) xs (rw t at h))
       ]
 
-  pub place_hits : (xs : List X) (k : ℕ) → first_place test 0 xs ≡ Some k → Hits xs k
+  pub place_hits : (xs : List X) (k : ℕ) → position_from test 0 xs ≡ Some k → Hits xs k
   place_hits xs k h = simp sub-zero at (hits_from 0 xs k h).1
 
-  pub place_misses : (xs : List X) → first_place test 0 xs ≡ None → Misses xs
+  pub place_misses : (xs : List X) → position_from test 0 xs ≡ None → Misses xs
   place_misses xs h = misses_from 0 xs h

@@ -1,49 +1,32 @@
--- The search for a record's place, or for a key, as far as it has come.
-use Rattle.std.proofs.Common.{◌≡◌, ℕ, ◌+◌, ◌<◌, ◌≤◌, Bool, true, false, List, [], ◌∷◌, ◌++◌, length, get_or, take, drop, Some, None, append_assoc}
-use Rattle.std.proofs.lemmas.List.{take_more, drop_more, drop_all}
-use Rattle.std.specs.List.{insert as inserted_at}
-use Rattle.ordered.specs.Order.{first_place, inserted}
+-- A record goes before the first that it is ahead of.
+use Rattle.std.proofs.Common.{◌≡◌, ℕ, suc, ◌+◌, ◌≤◌, Bool, List, [], ◌∷◌, length, refl, ◌∙◌, ap, inl, inr, arith}
+use Rattle.std.proofs.lemmas.Bool.{cases_Bool}
+use Rattle.std.specs.List.{insert as inserted_at, position_from}
+use Rattle.std.specs.Option.{unwrap_or}
+use Rattle.ordered.specs.Order.{inserted}
 
--- x goes behind the first i of xs
-pub record Behind {X : Type 0} (ahead : X → X → Bool) (x : X) (xs : List X) (i : ℕ) : Type 0 where
-  pub so_far : inserted ahead x xs ≡ take i xs ++ inserted ahead x (drop i xs)
+module _ {X : Type 0} (ahead : X → X → Bool) (x : X) where
+  -- the place k of x, where the list begins at place i and ends before n
+  record Goes (i n : ℕ) (xs : List X) : Type 0 where
+    k : ℕ
+    found : unwrap_or (position_from (ahead x) i xs) n ≡ i + k
+    within : k ≤ length xs
+    is : inserted ahead x xs ≡ inserted_at xs k x
 
-module _ {X : Type 0} {ahead : X → X → Bool} {x : X} {xs : List X} {i : ℕ} (b : Behind ahead x xs i) where
-  module _ (y : X) (within : i < length xs) (read : get_or xs i y ≡ y) where
-    pub behind_more : ahead x y ≡ false → Behind ahead x xs (i + 1)
-    behind_more test =
-        let d = drop_more xs i y within in
-        let t = take_more xs i y within in
-        let s : inserted ahead x (y ∷ drop (i + 1) xs) ≡ y ∷ inserted ahead x (drop (i + 1) xs) = rw test in
-        let a = append_assoc (take i xs) (y ∷ []) (inserted ahead x (drop (i + 1) xs)) in
-        record { so_far = cc b.so_far }
+  goes : (i n : ℕ) (xs : List X) → n ≡ i + length xs → Goes i n xs
+  goes i n [] e = record { k = 0; found = omega arith; within = omega arith; is = refl }
+  goes i n (y ∷ ys) e =
+      let ih = goes (i + 1) n ys (omega arith) in
+      elim (cases_Bool (ahead x y)) [
+        | inl t ↦ record { k = 0; found = rw t (omega arith); within = omega arith; is = rw t }
+        | inr t ↦ record { k = suc ih.k; found = rw t (omega (arith, ih.found)); within = omega (arith, ih.within); is = rw (t, ih.is) }
+      ]
 
-    pub placed : ahead x y ≡ true → inserted ahead x xs ≡ inserted_at xs i x
-    placed test =
-        let d = drop_more xs i y within in
-        let s : inserted ahead x (y ∷ drop (i + 1) xs) ≡ x ∷ y ∷ drop (i + 1) xs = rw test in
-        cc b.so_far
+  pub goes_within : (xs : List X) → unwrap_or (position_from (ahead x) 0 xs) (length xs) ≤ length xs
+  goes_within xs = let g = goes 0 (length xs) xs (omega arith) in omega (arith, g.found, g.within)
 
-  pub placed_last : (n : ℕ) → n ≡ i → length xs ≤ i → inserted ahead x xs ≡ inserted_at xs n x
-  placed_last n e l = let d : drop i xs ≡ [] = drop_all i xs l in rw e (cc b.so_far)
-
--- none of the first i of xs passes the test
-pub record Past {X : Type 0} (test : X → Bool) (xs : List X) (i : ℕ) : Type 0 where
-  pub so_far : first_place test i (drop i xs) ≡ first_place test 0 xs
-
-module _ {X : Type 0} {test : X → Bool} {xs : List X} {i : ℕ} (p : Past test xs i) where
-  module _ (y : X) (within : i < length xs) (read : get_or xs i y ≡ y) where
-    pub past_more : test y ≡ false → Past test xs (i + 1)
-    past_more t =
-        let d = drop_more xs i y within in
-        let s : first_place test i (y ∷ drop (i + 1) xs) ≡ first_place test (i + 1) (drop (i + 1) xs) = rw t in
-        record { so_far = cc p.so_far }
-
-    pub found_here : test y ≡ true → Some i ≡ first_place test 0 xs
-    found_here t =
-        let d = drop_more xs i y within in
-        let s : first_place test i (y ∷ drop (i + 1) xs) ≡ Some i = rw t in
-        cc p.so_far
-
-  pub found_nowhere : length xs ≤ i → None ≡ first_place test 0 xs
-  found_nowhere l = let d : drop i xs ≡ [] = drop_all i xs l in cc p.so_far
+  pub goes_before : (xs : List X) → inserted ahead x xs ≡ inserted_at xs (unwrap_or (position_from (ahead x) 0 xs) (length xs)) x
+  goes_before xs =
+      let g = goes 0 (length xs) xs (omega arith) in
+      let same : g.k ≡ unwrap_or (position_from (ahead x) 0 xs) (length xs) = omega (arith, g.found) in
+      g.is ∙ ap (λ k. inserted_at xs k x) same

@@ -1,6 +1,7 @@
 -- Records moved by one slot.
 use Rattle.std.proofs.Common.{◌≡◌, ℕ, ◌+◌, ◌-◌, ◌<◌, ◌≤◌, List, [], ◌∷◌, ◌++◌, length, get_or, take, drop, set, sym, ap, ◌∙◌, add-one, arith}
 use lib.Seq.{paste}
+use Rattle.std.proofs.Math.Seq.{take-set-lt}
 use Rattle.std.specs.List.{insert as inserted_at, remove}
 use Rattle.std.proofs.lemmas.List.{append_assoc, drop-take, length-append, length-drop, length-take, length-take-le, set_at, take_at, take_more, take-take}
 
@@ -44,3 +45,7 @@ module _ {X : Type 0} (xs : List X) (used i : ℕ) (h : i < used) (few : used �
   kept_sunk zs rest e =
       let n : length (remove (take used xs) i) ≡ used - 1 = simp (length-append, length-take, length-drop) (omega arith) in
       ap (take (used - 1)) e ∙ take_at (remove (take used xs) i) rest (used - 1) n
+
+-- a record written among the first n
+pub written : {X : Type 0} (n : ℕ) (xs : List X) (i : ℕ) (v : X) → i < n → take n (set xs i v) ≡ set (take n xs) i v
+written = take-set-lt

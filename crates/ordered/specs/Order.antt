@@ -50,8 +50,3 @@ takes_out used place room = cond (taking used place room) (Some (used - 1)) None
 abbrev pub with_taken_out : {X : Type 0} → (used place : ℕ) → List X → List X
 with_taken_out used place slots =
     cond (taking used place (length slots)) (remove (take used slots) place ++ drop (used - 1) slots) slots
-
--- the place of the first that passes the test, where the list begins at place i
-abbrev pub first_place : {X : Type 0} → (X → Bool) → ℕ → List X → Option ℕ
-first_place test i [] = None
-first_place test i (x ∷ xs) = cond (test x) (Some i) (first_place test (i + 1) xs)

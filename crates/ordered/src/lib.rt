@@ -2,10 +2,15 @@
 #![tactic(auto)]
 
 ghost use Rattle.std.specs.Prelude.{◌≡◌, ◌+◌, ◌-◌, ◌<◌, ◌≤◌, Bool, true, false, ◌++◌, length, take, drop, IfSome};
-ghost use Rattle.std.specs.List.{insert as inserted_at, remove};
-ghost use Rattle.ordered.specs.Order.{first_place, inserted, inserts, with_inserted, takes_out, with_taken_out, InsertionGoesBehindEquals, InsertionKeepsOrder};
+ghost use Rattle.std.specs.List.{insert as inserted_at, position_from, remove};
+ghost use Rattle.ordered.specs.Order.{inserted, inserts, with_inserted, takes_out, with_taken_out, InsertionGoesBehindEquals, InsertionKeepsOrder};
+
+mod bounded;
+
+pub use bounded::{BoundedList, NoRoom};
 
 // A record with an order among its kind. `By` chooses between the orders that a record has, as the side of a book does.
+// (The library's `Ord` gives a type one order, and one that reads all that `==` does.)
 // The laws make it one in which any two records compare: one is ahead of the other, or they are equal in it.
 pub trait Ordered<By>: Copy {
     ghost ahead: { By → Self → Self → Bool };
@@ -28,18 +33,19 @@ pub trait Keyed<K>: Copy {
         ensures { result ≡ has key self.now };
 }
 
-// Where an item goes among the first `used` slots: before the first that it is ahead of.
-fn place_of<By: Copy, T: Ordered<By>>(slots: &[T], used: usize, item: &T, by: By) -> usize
-    requires { used ≤ length slots.now }
-    ensures within { result ≤ used }
-    ensures parts { inserted (T.ahead by) item.now (take used slots.now) ≡ inserted_at (take used slots.now) result item.now }
+// The first of a list that an item is ahead of.
+fn first_behind<By: Copy, T: Ordered<By>>(kept: &[T], item: &T, by: By) -> Option<usize>
+    ensures { result ≡ position_from (T.ahead by item.now) 0 kept.now }
 {
-    for place in 0..used {
-        if item.is_ahead(&slots[place], by) {
-            return place;
-        }
-    }
-    used
+    kept.iter().position(|other| item.is_ahead(other, by))
+}
+
+// Where an item goes in a list: before the first that it is ahead of.
+fn place_of<By: Copy, T: Ordered<By>>(kept: &[T], item: &T, by: By) -> usize
+    ensures within { result ≤ length kept.now }
+    ensures parts { inserted (T.ahead by) item.now kept.now ≡ inserted_at kept.now result item.now }
+{
+    first_behind(kept, item, by).unwrap_or(kept.len())
 }
 
 // Moves the records from `place` on up by one slot, and writes the item there.
@@ -63,6 +69,9 @@ fn slide_out<T: Copy>(slots: &mut [T], used: usize, place: usize)
     slots.copy_within(place + 1..used, place);
 }
 
+// What follows works on the first `used` slots of any slice, also of one that another lends: fixed memory need not be a
+// `BoundedList`.
+
 // Puts an item into its place among the first `used` slots, before the first that it is ahead of, and answers how many there
 // are then. None, and no slot changed, where no slot is spare.
 pub fn insert<By: Copy, T: Ordered<By>>(
@@ -78,7 +87,7 @@ pub fn insert<By: Copy, T: Ordered<By>>(
     if used >= slots.len() {
         return None;
     }
-    let place = place_of(slots, used, &item, by);
+    let place = place_of(&slots[..used], &item, by);
     slide_in(slots, used, place, item);
     Some(used + 1)
 }
@@ -105,13 +114,8 @@ pub fn take_out<T: Copy>(slots: &mut [T], used: usize, place: usize) -> Option<u
 
 // The first place of a key among the first `used` slots.
 pub fn find<K: Copy, T: Keyed<K>>(slots: &[T], used: usize, key: K) -> Option<usize>
-    ensures answer { result ≡ first_place (T.has key) 0 (take used slots.now) }
+    ensures answer { result ≡ position_from (T.has key) 0 (take used slots.now) }
     ensures within { IfSome result (λ place. (place < used) × (place < length slots.now)) }
 {
-    for place in 0..used.min(slots.len()) {
-        if slots[place].has_key(key) {
-            return Some(place);
-        }
-    }
-    None
+    slots.iter().take(used).position(|slot| slot.has_key(key))
 }

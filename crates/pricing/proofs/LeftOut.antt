@@ -1,7 +1,5 @@
 -- In a list in priority order, the hidden orders in front of the first visible one are those strictly better than the best visible limit.
-use Rattle.std.proofs.Common.{◌≡◌, ℕ, zero, suc, ◌+◌, ◌≤◌, true, false, cond, not, List, [], ◌∷◌, length, take, drop, Some, None, filter, Option, sym, refl, ap, subst, add-one, one-add, arith}
-use Rattle.std.specs.List.{slice_get}
-use Rattle.std.proofs.lemmas.List.Sums.{prefix_len-drop_all}
+use Rattle.std.proofs.Common.{◌≡◌, ℕ, suc, true, false, cond, not, List, [], ◌∷◌, take, drop, Some, None, filter, Option, sym, refl, ap, subst, one-add, arith}
 use Rattle.std.proofs.lemmas.Bool.{and_parts, and_right, cond_both, cond-false}
 use Rattle.std.proofs.lemmas.Bool.Decides.{nat_tests}
 use Rattle.ordered.specs.Order.{none_ahead, in_order}
@@ -10,7 +8,7 @@ use Rattle.book.specs.Sides.{better}
 use Rattle.book.specs.declared.resting.Resting.{Resting}
 use Rattle.book.specs.declared.side.Side.{Side}
 use Rattle.book.specs.declared.side.Side.TheVariants.{Bid, Ask}
-use Rattle.pricing.specs.Counting.{hidden, left_out, better_of, best_visible, better_hidden, LeavesOutTheBetterHidden}
+use Rattle.pricing.specs.Counting.{left_out, better_of, best_visible, better_hidden, LeavesOutTheBetterHidden}
 
 -- what is not ahead is not better
 not_better : (s : Side) (x o : Resting) → not (ahead s x o) ≡ true → better s x.limit o.limit ≡ false
@@ -95,21 +93,3 @@ leaves_out s (o ∷ os) h =
 
 pub leaves_out_at : (s : Side) (os : List Resting) (n : ℕ) → n ≡ left_out os → LeavesOutTheBetterHidden s n os
 leaves_out_at s os n e = rw e (leaves_out s os)
-
--- one place further
-left_out_at : (os : List Resting) (i : ℕ) → left_out (drop i os) ≡ cond (hidden (slice_get os i)) (1 + left_out (drop (suc i) os)) 0
-left_out_at [] zero = refl
-left_out_at [] (suc i) = refl
-left_out_at (o ∷ os) zero = refl
-left_out_at (o ∷ os) (suc i) = left_out_at os i
-
--- a loop over the places, where every order in front of place i is hidden
-module _ (os : List Resting) (i : ℕ) (going : left_out os ≡ i + left_out (drop i os)) where
-  pub left_out_all : length os ≤ i → i ≡ left_out os
-  left_out_all l = omega (arith, prefix_len-drop_all (λ o. not o.visible) os i l)
-
-  pub left_out_ends : hidden (slice_get os i) ≡ false → i ≡ left_out os
-  left_out_ends h = omega (arith, rw h at (left_out_at os i))
-
-  pub left_out_more : hidden (slice_get os i) ≡ true → left_out os ≡ (i + 1) + left_out (drop (i + 1) os)
-  left_out_more h = rw (add-one i) (omega (arith, rw h at (left_out_at os i)))

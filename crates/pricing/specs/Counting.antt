@@ -1,16 +1,11 @@
 -- Which orders of a side count for the average.
-use Rattle.std.specs.Prelude.{◌≡◌, ℕ, Bool, false, cond, not, ◌&&◌, List, [], ◌∷◌, take, drop, Some, None, filter, Option}
+use Rattle.std.specs.Prelude.{◌≡◌, ℕ, Bool, cond, not, ◌&&◌, List, [], ◌∷◌, take, drop, Some, None, filter, Option}
 use Rattle.std.specs.List.{prefix_len}
 use Rattle.ordered.specs.Order.{InOrder}
 use Rattle.book.specs.Priority.{ahead}
 use Rattle.book.specs.Sides.{better}
 use Rattle.book.specs.declared.resting.Resting.{Resting}
 use Rattle.book.specs.declared.side.Side.{Side}
-
--- of the order at a place, if there is one
-abbrev pub hidden : Option Resting → Bool
-hidden None = false
-hidden (Some o) = not o.visible
 
 -- how many hidden orders stand in front of the first visible one
 abbrev pub left_out : List Resting → ℕ

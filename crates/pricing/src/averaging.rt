@@ -6,7 +6,7 @@ ghost use Rattle.pricing.specs.Walk.{walked, by_share, shares};
 
 use crate::counting::left_out;
 use crate::records::Walked;
-use book::{ReadBook, Side};
+use book::{Orders, ReadBook, Side};
 
 // The largest volume of an order.
 const LARGEST: u32 = 1_000_000;
@@ -29,18 +29,18 @@ pub fn walk<B: ReadBook>(book: &B, side: Side, volume: u32) -> Option<Walked>
     if volume == 0 || volume > LARGEST {
         return None;
     }
-    let mut place = left_out(book, side);
     let mut wanted = volume as u64;
     let mut cost = 0;
-    let (cost, last) = loop {
-        let order = book.look(side, place)?;
+    for order in Orders::from_place(book, side, left_out(book, side)) {
         let shares = wanted.min(order.volume as u64);
         cost = add_shares(cost, shares, order.limit);
         if shares == wanted {
-            break (cost, order.limit);
+            return Some(Walked {
+                cost,
+                last: order.limit,
+            });
         }
         wanted -= shares;
-        place += 1;
-    };
-    Some(Walked { cost, last })
+    }
+    None
 }

@@ -1,31 +1,31 @@
 // The orders of a side that count for the average: from the first visible one on.
-ghost use Rattle.std.specs.Prelude.{◌≡◌, ◌^◌, ◌<◌, length};
-ghost use Rattle.std.specs.List.{slice_get};
+ghost use Rattle.std.specs.Prelude.{◌≡◌, ◌^◌, ◌<◌, length, not};
 ghost use Rattle.book.specs.Listed.{listed};
-ghost use Rattle.pricing.specs.Counting.{hidden, left_out, LeavesOutTheBetterHidden};
+ghost use Rattle.book.specs.Reading.{left as rest};
+ghost use Rattle.pricing.specs.Counting.{left_out, LeavesOutTheBetterHidden};
 
-use book::{ReadBook, Side};
+use book::{Orders, ReadBook, Resting, Side};
 
-fn is_hidden<B: ReadBook>(book: &B, side: Side, place: usize) -> bool
-    ensures { result ≡ hidden (slice_get (listed B.ReadBook side book.now) place) }
+fn is_hidden(order: &Resting) -> bool
+    ensures { result ≡ not order.now.visible }
 {
-    match book.look(side, place) {
-        Some(order) => !order.visible,
-        None => false,
-    }
+    !order.visible
+}
+
+// How many hidden orders stand in front of the first visible one of what an iterator over a side has still to give.
+fn hidden_in_front<B: ReadBook>(orders: Orders<'_, B>, side: Side) -> usize
+    ensures answer { result ≡ left_out (rest B.ReadBook orders.entry) }
+    ensures meaning { LeavesOutTheBetterHidden side result (rest B.ReadBook orders.entry) }
+    ensures countable { length (rest B.ReadBook orders.entry) < 2 ^ 64 }
+{
+    orders.take_while(|order| is_hidden(order)).count()
 }
 
 // How many hidden orders stand in front of the first visible one. They are left out of the average.
-// `countable`: a caller that goes over the places in a `usize` needs it.
 pub fn left_out<B: ReadBook>(book: &B, side: Side) -> usize
     ensures answer { result ≡ left_out (listed B.ReadBook side book.now) }
     ensures meaning { LeavesOutTheBetterHidden side result (listed B.ReadBook side book.now) }
     ensures countable { length (listed B.ReadBook side book.now) < 2 ^ 64 }
 {
-    let count = book.count(side);
-    let mut place = 0;
-    while place < count && is_hidden(book, side, place) {
-        place += 1;
-    }
-    place
+    hidden_in_front(Orders::of(book, side), side)
 }

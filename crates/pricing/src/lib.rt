@@ -16,4 +16,4 @@ pub use counting::left_out;
 pub use customer::price_order;
 pub use figures::worked_figures;
 pub use quoting::quote_price;
-pub use records::{Price, Quotation, Walked};
+pub use records::{Quotation, Walked};

@@ -2,7 +2,7 @@
 ghost use Rattle.std.specs.Prelude.{◌≡◌, ◌+◌, ◌*◌, ◌^◌, ◌<◌, ◌≤◌};
 ghost use Rattle.pricing.specs.Price.{rounded, quoted, quotation, Nearest, BeatsTheCost};
 
-use crate::records::{Price, Quotation, Walked};
+use crate::records::{Quotation, Walked};
 use book::Side;
 
 // Cost by shares, rounded to the nearest thousandth, a half upwards.
@@ -17,7 +17,8 @@ fn round_average(cost: u64, volume: u32) -> u32
 }
 
 // The executor's price by the side of the quote: an ask quote is below the average by the relative limit, a bid quote above it.
-pub fn quote_price(side: Side, average: u32, relative: u32) -> Price
+// None where that is below 1.
+pub fn quote_price(side: Side, average: u32, relative: u32) -> Option<u64>
     ensures { result ≡ quoted side average relative }
 {
     let average = average as u64;
@@ -26,11 +27,7 @@ pub fn quote_price(side: Side, average: u32, relative: u32) -> Price
         Side::Bid => average + relative,
         Side::Ask => average.saturating_sub(relative),
     };
-    if price == 0 {
-        Price::BelowOne
-    } else {
-        Price::At(price)
-    }
+    (price >= 1).then_some(price)
 }
 
 // The price of an order that was walked. Its limits are of 32 bits, so no share costs more, and the average fits too.

@@ -7,19 +7,12 @@ pub struct Walked {
     pub last: u32,
 }
 
-// The price of a quote: a whole number of thousandths from 1 on, or that it would be below 1.
-#[derive(Clone, Copy)]
-pub enum Price {
-    At(u64),
-    BelowOne,
-}
-
 // What a customer's order would cost over the orders that count, the limit of the last order that it reaches, the rounded
-// average, and the executor's price a share.
-#[derive(Clone, Copy)]
+// average, and the executor's price a share, if it is from 1 on.
+#[derive(Clone, Copy, PartialEq, Eq, Debug)]
 pub struct Quotation {
     pub cost: u64,
     pub last: u32,
     pub average: u32,
-    pub price: Price,
+    pub price: Option<u64>,
 }

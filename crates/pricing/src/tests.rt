@@ -3,6 +3,7 @@ use crate::averaging::walk;
 use crate::records::Walked;
 use book::{Resting, Side, Snapshot};
 
+// (`worked_fill`, above this crate, has the like for its asks.)
 fn order(number: u32, volume: u32, limit: u32, visible: bool) -> Resting {
     Resting {
         number,

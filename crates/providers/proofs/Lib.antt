@@ -1,4 +1,4 @@
 pub mod Keeps
 pub mod Masks
 pub mod Places
-pub mod Rises
+pub mod Stands

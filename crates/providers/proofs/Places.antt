@@ -1,35 +1,32 @@
--- What the search for a member tells.
-use Rattle.std.proofs.Common.{◌≡◌, ℕ, zero, suc, false, eqb, List, [], ◌∷◌, get_or, Some, None, refl}
-use Rattle.std.proofs.ByRecursion.{All-map}
-use Rattle.ordered.proofs.Finds.{Hits, Misses, place_hits, place_misses}
-use Rattle.providers.specs.Lookups.{provider_of}
-use Rattle.providers.specs.Members.{has_member, members}
-use Rattle.providers.specs.Settings.{placed}
-use Rattle.providers.specs.declared.provider.Provider.{Provider}
+-- What is found of a member, by what the search for its place tells.
+use Rattle.std.proofs.Common.{◌≡◌, ℕ, zero, suc, ◌+◌, Bool, true, cond, List, [], ◌∷◌, None, slice_get, find, count_by, refl, ap, ◌∙◌, inl, inr, arith}
+use Rattle.std.proofs.lemmas.List.Sums.{sum_by-cons}
+use Rattle.std.proofs.lemmas.Bool.{cases_Bool}
+use Rattle.ordered.proofs.Finds.{Hits, Misses}
 
--- the member stands at the place that is told, and nowhere where none is
-hit_member : (m : ℕ) (ps : List Provider) (k : ℕ) → Hits (has_member m) ps k → Hits (eqb m) (members ps) k
-hit_member m [] k h = h
-hit_member m (p ∷ ps) zero h = h
-hit_member m (p ∷ ps) (suc k) h = (h.0, hit_member m ps k h.1)
+module _ {X : Type 0} (test : X → Bool) where
+  pub found_there : (xs : List X) (i : ℕ) → Hits test xs i → find test xs ≡ slice_get xs i
+  found_there [] i h = absurd h
+  found_there (x ∷ xs) zero h = rw h
+  found_there (x ∷ xs) (suc i) h = rw h.0 (found_there xs i h.1)
 
-pub placed_hits : (m : ℕ) (ps : List Provider) (k : ℕ) → placed m ps ≡ Some k → Hits (eqb m) (members ps) k
-placed_hits m ps k h = hit_member m ps k (place_hits (has_member m) ps k h)
+  pub counted : (x : X) (xs : List X) → count_by test (x ∷ xs) ≡ cond (test x) 1 0 + count_by test xs
+  counted x xs = sum_by-cons (λ y. cond (test y) 1 0) x xs
 
-pub placed_misses : (m : ℕ) (ps : List Provider) → placed m ps ≡ None → Misses (eqb m) (members ps)
-placed_misses m ps h = All-map (λ n. eqb m n ≡ false) (λ p. p.member) ps (place_misses (has_member m) ps h)
+  pub counted_one : (x : X) (xs : List X) → test x ≡ true → count_by test (x ∷ xs) ≡ 1 + count_by test xs
+  counted_one x xs h = counted x xs ∙ ap (λ b. cond b 1 0 + count_by test xs) h
 
-pub missing_none : (m : ℕ) (ps : List Provider) → Misses (eqb m) (members ps) → provider_of m ps ≡ None
-missing_none m [] h = refl
-missing_none m (p ∷ ps) h = rw h.0 (missing_none m ps h.1)
+  pub found_none : (xs : List X) → count_by test xs ≡ 0 → find test xs ≡ None
+  found_none [] h = refl
+  found_none (x ∷ xs) h =
+      elim (cases_Bool (test x)) [
+        | inl t ↦ absurd (omega (arith, counted_one x xs t))
+        | inr t ↦ rw t (found_none xs (omega (arith, counted x xs)))
+      ]
 
-hit_some : (m : ℕ) (ps : List Provider) (i : ℕ) (d : Provider) → Hits (eqb m) (members ps) i → provider_of m ps ≡ Some (get_or ps i d)
-hit_some m [] i d h = absurd h
-hit_some m (p ∷ ps) zero d h = rw h
-hit_some m (p ∷ ps) (suc i) d h = rw h.0 (hit_some m ps i d h.1)
+  pub counted_nowhere : (xs : List X) → Misses test xs → count_by test xs ≡ 0
+  counted_nowhere [] h = refl
+  counted_nowhere (x ∷ xs) h = rw h.0 (counted_nowhere xs h.1)
 
-pub found_there : (m : ℕ) (ps : List Provider) (i : ℕ) (d : Provider) → placed m ps ≡ Some i → provider_of m ps ≡ Some (get_or ps i d)
-found_there m ps i d h = hit_some m ps i d (placed_hits m ps i h)
-
-pub found_nowhere : (m : ℕ) (ps : List Provider) → placed m ps ≡ None → provider_of m ps ≡ None
-found_nowhere m ps h = missing_none m ps (placed_misses m ps h)
+  pub found_nowhere : (xs : List X) → Misses test xs → find test xs ≡ None
+  found_nowhere xs h = found_none xs (counted_nowhere xs h)

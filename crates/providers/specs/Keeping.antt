@@ -1,14 +1,8 @@
--- What a setting keeps, and what it changes.
-use Rattle.std.specs.Prelude.{◌≡◌, ℕ, ◌≤◌, cond, ◌||◌, List, Some, None, count_by, ◌==◌, ◌≢◌}
-use Rattle.ordered.specs.Order.{InOrder}
+-- What a setting changes.
+use Rattle.std.specs.Prelude.{◌≡◌, ℕ, cond, ◌||◌, List, Some, None, count_by, ◌==◌, ◌≢◌}
 use Rattle.providers.specs.Lookups.{agreed, agreed_in, agrees, default_of, executors, provider_of}
-use Rattle.providers.specs.Members.{by_member, has_member}
 use Rattle.providers.specs.Settings.{says_nothing}
 use Rattle.providers.specs.declared.provider.Provider.{Provider}
-
-pub record MembersStandInOrderAndOnce (ps : List Provider) : Type 0 where
-  pub in_order : InOrder (by_member tt) ps
-  pub once : (m : ℕ) → count_by (has_member m) ps ≤ 1
 
 -- the look-ups of the member that is set give what was set, and those of every other member are as they were; a provider that
 -- says nothing does not stand; and n executors are agreed with then

@@ -1,20 +1,17 @@
 -- What is looked up of a member.
-use Rattle.std.specs.Prelude.{◌≡◌, ℕ, ◌-◌, ◌/◌, ◌%◌, ◌^◌, ◌<◌, Bool, false, cond, ◌&&◌, ◌||◌, List, [], ◌∷◌, Some, None, sum_by, Option, ◌==◌}
+use Rattle.std.specs.Prelude.{◌≡◌, ℕ, ◌-◌, ◌/◌, ◌%◌, ◌^◌, ◌<◌, Bool, false, cond, ◌&&◌, ◌||◌, List, [], ◌∷◌, Some, None, sum_by, find, Option, ◌==◌, option_and_then}
 use Rattle.fields.specs.Ranges.{within}
 use Rattle.providers.specs.Members.{has_member}
 use Rattle.providers.specs.declared.provider.Provider.{Provider}
 
 -- the first provider of a member
 abbrev pub provider_of : ℕ → List Provider → Option Provider
-provider_of m [] = None
-provider_of m (p ∷ ps) = cond (has_member m p) (Some p) (provider_of m ps)
+provider_of m = find (has_member m)
 
-abbrev pub default_in : Option Provider → ℕ
-default_in None = 0
-default_in (Some p) = p.default
+abbrev pub default_in : Option Provider → Option ℕ
+default_in = option_and_then (λ p. p.default)
 
--- 0 without one
-abbrev pub default_of : ℕ → List Provider → ℕ
+abbrev pub default_of : ℕ → List Provider → Option ℕ
 default_of m ps = default_in (provider_of m ps)
 
 -- the executors in a mask

@@ -1,6 +1,6 @@
 -- Providers by their members.
-use Rattle.std.specs.Prelude.{ℕ, Bool, List, map, ◌==◌, nat_le, nat_lt}
-use Rattle.ordered.specs.Order.{in_order}
+use Rattle.std.specs.Prelude.{ℕ, ◌≤◌, Bool, List, count_by, ◌==◌, nat_lt}
+use Rattle.ordered.specs.Order.{InOrder}
 use Rattle.providers.specs.declared.provider.Provider.{Provider}
 
 abbrev pub by_member : Unit {0} → Provider → Provider → Bool
@@ -9,9 +9,6 @@ by_member by p q = nat_lt p.member q.member
 abbrev pub has_member : ℕ → Provider → Bool
 has_member m p = m == p.member
 
-abbrev pub members : List Provider → List ℕ
-members ps = map (λ p. p.member) ps
-
--- no later number is at or below an earlier one
-abbrev pub rising : List ℕ → Bool
-rising ns = in_order nat_le ns
+pub record MembersStandInOrderAndOnce (ps : List Provider) : Type 0 where
+  pub in_order : InOrder (by_member tt) ps
+  pub once : (m : ℕ) → count_by (has_member m) ps ≤ 1

@@ -1,6 +1,6 @@
 -- A provider as it is sent, held to the ranges of its fields in their order.
 use Rattle.std.specs.Prelude.{cond, not, Ok, Err, Result}
-use Rattle.fields.specs.Ranges.{within}
+use Rattle.fields.specs.Ranges.{nonzero, within}
 use Rattle.providers.specs.declared.fault.Fault.{Fault}
 use Rattle.providers.specs.declared.fault.Fault.TheVariants.{Range}
 use Rattle.providers.specs.declared.fault.Field.TheVariants.{Member, Agreements, Default}
@@ -12,4 +12,4 @@ read f =
     cond (not (within 1 250 f.member)) (Err (Range Member))
     (cond (not (within 0 255 f.agreements)) (Err (Range Agreements))
     (cond (not (within 0 255 f.default)) (Err (Range Default))
-    (Ok (record { member = f.member; agreements = f.agreements; default = f.default }))))
+    (Ok (record { member = f.member; agreements = f.agreements; default = nonzero f.default }))))

@@ -1,8 +1,9 @@
 -- What a setting answers, and what it makes of the list.
-use Rattle.std.specs.Prelude.{ℕ, Bool, cond, ◌&&◌, ◌||◌, List, length, Some, None, Ok, Err, count_by, Option, Result, ◌==◌, nat_lt, slice_set}
-use Rattle.std.specs.List.{remove}
+use Rattle.std.specs.Prelude.{ℕ, Bool, cond, ◌&&◌, ◌||◌, List, is_none, Some, None, Ok, Err, count_by, Option, Result, ◌==◌, slice_set}
+use Rattle.std.specs.List.{position_from, remove}
 use Rattle.fields.specs.Refusals.{and_then, changed}
-use Rattle.ordered.specs.Order.{first_place, inserted}
+use Rattle.ordered.specs.Bounded.{has_room}
+use Rattle.ordered.specs.Order.{inserted}
 use Rattle.providers.specs.Lookups.{agreed, executors}
 use Rattle.providers.specs.Members.{by_member, has_member}
 use Rattle.providers.specs.Reading.{read}
@@ -15,12 +16,9 @@ use Rattle.providers.specs.declared.provider.ProviderFields.{ProviderFields}
 abbrev pub capacity : ℕ
 capacity = 64
 
-abbrev pub has_room : List Provider → Bool
-has_room ps = nat_lt (length ps) capacity
-
 -- no agreement and no default
 abbrev pub says_nothing : Provider → Bool
-says_nothing p = p.agreements == 0 && p.default == 0
+says_nothing p = p.agreements == 0 && is_none p.default
 
 -- how many executors a mask agrees with
 abbrev pub agreements_in : ℕ → ℕ
@@ -28,11 +26,11 @@ agreements_in mask = count_by (agreed mask) executors
 
 -- the first place of a member
 abbrev pub placed : ℕ → List Provider → Option ℕ
-placed m = first_place (has_member m) 0
+placed m = position_from (has_member m) 0
 
 -- a provider that is not there is entered, unless the list is full
 abbrev pub entered : Provider → List Provider → List Provider
-entered p ps = cond (has_room ps) (inserted (by_member tt) p ps) ps
+entered p ps = cond (has_room capacity ps) (inserted (by_member tt) p ps) ps
 
 -- one that stands is replaced; one that says nothing does not stand
 abbrev pub put_at : Option ℕ → Provider → List Provider → List Provider
@@ -42,7 +40,7 @@ put_at None p ps = cond (says_nothing p) ps (entered p ps)
 -- answered with the number of its agreements
 abbrev pub puts_at : Option ℕ → Provider → List Provider → Result ℕ Fault
 puts_at (Some i) p ps = Ok (agreements_in p.agreements)
-puts_at None p ps = cond (says_nothing p || has_room ps) (Ok (agreements_in p.agreements)) (Err Full)
+puts_at None p ps = cond (says_nothing p || has_room capacity ps) (Ok (agreements_in p.agreements)) (Err Full)
 
 abbrev pub put : Provider → List Provider → List Provider
 put p ps = put_at (placed p.member ps) p ps

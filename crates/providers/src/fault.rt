@@ -1,18 +1,23 @@
 // What the providers refuse.
-ghost use Rattle.std.specs.Prelude.{◌≡◌};
-ghost use Rattle.providers.specs.Faults.{coded, place_of};
+ghost use Rattle.std.specs.Prelude.{◌≡◌, Some};
+ghost use Rattle.book.specs.Faults.{code_text};
+ghost use Rattle.providers.specs.Faults.{coded};
+ghost use Rattle.providers.specs.declared.fault.Fault.TheVariants.{Full, Range};
 
 use book::Code;
+use ordered::NoRoom;
+use std::error::Error;
+use std::fmt;
 
-// The fields of a provider, in the order in which they are sent.
-#[derive(Clone, Copy)]
+// The fields of a provider, each with its place in the order in which they are sent.
+#[derive(Clone, Copy, PartialEq, Eq, Debug)]
 pub enum Field {
-    Member,
+    Member = 1,
     Agreements,
     Default,
 }
 
-#[derive(Clone, Copy)]
+#[derive(Clone, Copy, PartialEq, Eq, Debug)]
 pub enum Fault {
     // A field out of its range.
     Range(Field),
@@ -20,25 +25,29 @@ pub enum Fault {
     Full,
 }
 
-impl Field {
-    // Its place among the fields, from 1.
-    fn place(self) -> u8
-        ensures { result ≡ place_of self }
-    {
-        match self {
-            Field::Member => 1,
-            Field::Agreements => 2,
-            Field::Default => 3,
-        }
+// Each layer has its own fields and faults, so these conversions, a line or a table each, stand with each.
+impl From<Field> for Fault {
+    ghost from_gives = { λ field fault. fault ≡ Range field };
+
+    fn from(field: Field) -> Fault {
+        Self::Range(field)
     }
 }
 
-impl Fault {
-    pub fn code(self) -> Code
-        ensures { result ≡ coded self }
-    {
-        let (number, place) = match self {
-            Fault::Range(field) => (1, field.place()),
+impl From<NoRoom> for Fault {
+    ghost from_gives = { λ _ fault. fault ≡ Full };
+
+    fn from(_: NoRoom) -> Fault {
+        Self::Full
+    }
+}
+
+impl From<Fault> for Code {
+    ghost from_gives = { λ fault code. code ≡ coded fault };
+
+    fn from(fault: Fault) -> Code {
+        let (number, place) = match fault {
+            Fault::Range(field) => (1, field as u8),
             Fault::Full => (12, 0),
         };
         Code {
@@ -48,3 +57,13 @@ impl Fault {
         }
     }
 }
+
+impl fmt::Display for Fault {
+    ghost output = { λ fault. Some (code_text (coded fault)) };
+
+    fn fmt<W: fmt::Write>(&self, f: &mut fmt::Formatter<W>) -> fmt::Result {
+        write!(f, "{}", Code::from(*self))
+    }
+}
+
+impl Error for Fault {}

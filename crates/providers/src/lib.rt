@@ -2,9 +2,8 @@
 #![tactic(auto)]
 
 mod fault;
-mod lookup;
+mod mask;
 mod provider;
-mod setting;
 mod table;
 #[cfg(test)]
 mod tests;

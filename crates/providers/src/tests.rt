@@ -1,6 +1,7 @@
 // A full table, the ends of the fields' ranges, and what is looked up.
 use crate::provider::ProviderFields;
 use crate::table::Providers;
+use book::Code;
 
 // The number and the place of a refusal, or 0 and what is answered.
 fn set(providers: &mut Providers, fields: [u64; 3]) -> (u8, u32) {
@@ -12,7 +13,7 @@ fn set(providers: &mut Providers, fields: [u64; 3]) -> (u8, u32) {
     match providers.set(fields) {
         Ok(agreed) => (0, agreed),
         Err(fault) => {
-            let code = fault.code();
+            let code = Code::from(fault);
             (code.number, code.place as u32)
         }
     }
@@ -46,12 +47,12 @@ fn settings_one_after_another(rt: HostRuntime) {
         assert_eq!(rt; set(&mut providers, fields), told);
     }
     let executors_of_20 = [false, true, true, false, false, true, false, true];
-    for k in 0..8 {
-        assert_eq!(rt; providers.agrees(20, k + 1), executors_of_20[k as usize]);
+    for (executor, agreed) in (1..=8).zip(executors_of_20) {
+        assert_eq!(rt; providers.agrees(20, executor), agreed);
     }
     assert_eq!(rt; providers.agrees(64, 1), false);
     assert_eq!(rt; providers.agrees(64, 64), true);
-    assert_eq!(rt; providers.default_of(20), 3);
-    assert_eq!(rt; providers.default_of(1), 9);
-    assert_eq!(rt; providers.default_of(64), 0);
+    assert_eq!(rt; providers.default_of(20), Some(3));
+    assert_eq!(rt; providers.default_of(1), Some(9));
+    assert_eq!(rt; providers.default_of(64), None);
 }

@@ -1,29 +1,27 @@
 -- What the fields of a quote say, or the first of them that is out of range.
-use Rattle.std.specs.Prelude.{ℕ, cond, not, Some, None, Ok, Err, Option, Result, ◌==◌}
-use Rattle.fields.specs.Ranges.{within}
+use Rattle.std.specs.Prelude.{cond, not, Ok, Err, Result}
+use Rattle.fields.specs.Ranges.{nonzero, within}
 use Rattle.fields.specs.Refusals.{and_then}
 use Rattle.book.specs.Sides.{sided}
 use Rattle.quotes.specs.declared.entry.Quote.{Quote}
 use Rattle.quotes.specs.declared.entry.QuoteFields.{QuoteFields}
 use Rattle.quotes.specs.declared.entry.Whose.{Whose}
+use Rattle.quotes.specs.declared.entry.WhoseFields.{WhoseFields}
 use Rattle.quotes.specs.declared.fault.Fault.{Fault}
 use Rattle.quotes.specs.declared.fault.Fault.TheVariants.{Range}
 use Rattle.quotes.specs.declared.fault.Field.TheVariants.{Executor, Side, Relative, Boundary, Size, Reserve}
 use Rattle.quotes.specs.declared.quote_side.QuoteSide.{QuoteSide}
 
-abbrev pub read_whose : (executor side : ℕ) → Result Whose Fault
-read_whose executor side =
-    cond (not (within 1 8 executor)) (Err (Range Executor))
-    (cond (not (within 0 1 side)) (Err (Range Side))
-    (Ok (record { executor = executor; side = sided side })))
-
-abbrev pub bound : ℕ → Option ℕ
-bound b = cond (b == 0) None (Some b)
+abbrev pub read_whose : WhoseFields → Result Whose Fault
+read_whose f =
+    cond (not (within 1 8 f.executor)) (Err (Range Executor))
+    (cond (not (within 0 1 f.side)) (Err (Range Side))
+    (Ok (record { executor = f.executor; side = sided f.side })))
 
 -- a new side displays its size
 abbrev pub new_side : QuoteFields → QuoteSide
 new_side f =
-    record { relative = f.relative; boundary = bound f.boundary; size = f.size; displayed = f.size; reserve = f.reserve }
+    record { relative = f.relative; boundary = nonzero f.boundary; size = f.size; displayed = f.size; reserve = f.reserve }
 
 abbrev pub read_terms : QuoteFields → Result QuoteSide Fault
 read_terms f =
@@ -34,4 +32,4 @@ read_terms f =
     (Ok (new_side f)))))
 
 abbrev pub read : QuoteFields → Result Quote Fault
-read f = and_then (read_whose f.executor f.side) (λ w. and_then (read_terms f) (λ s. Ok (record { whose = w; terms = s })))
+read f = and_then (read_whose f.whose) (λ w. and_then (read_terms f) (λ s. Ok (record { whose = w; terms = s })))

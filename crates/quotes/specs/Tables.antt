@@ -1,6 +1,6 @@
 -- The sixteen sides, and what each call answers and makes of them.
 use Rattle.std.specs.Prelude.{ℕ, ◌+◌, ◌-◌, ◌*◌, cond, List, Some, None, Ok, Option, Result, slice_index_or, slice_set}
-use Rattle.std.specs.Option.{option_flatten, option_map, ok_or, unwrap_or}
+use Rattle.std.specs.Option.{ok_or, option_and_then, option_map_or}
 use Rattle.fields.specs.Ranges.{within}
 use Rattle.fields.specs.Refusals.{and_then, changed}
 use Rattle.book.specs.Sides.{on}
@@ -8,6 +8,7 @@ use Rattle.quotes.specs.Entries.{read, read_whose}
 use Rattle.quotes.specs.Fills.{fills, total, volumes}
 use Rattle.quotes.specs.declared.entry.QuoteFields.{QuoteFields}
 use Rattle.quotes.specs.declared.entry.Whose.{Whose}
+use Rattle.quotes.specs.declared.entry.WhoseFields.{WhoseFields}
 use Rattle.quotes.specs.declared.fault.Fault.{Fault}
 use Rattle.quotes.specs.declared.fault.Fault.TheVariants.{NoSide}
 use Rattle.quotes.specs.declared.quote_side.QuoteSide.{QuoteSide}
@@ -46,25 +47,25 @@ abbrev pub entered : QuoteFields → List (Option QuoteSide) → List (Option Qu
 entered f sides = changed (read f) (λ q. put q.whose (Some q.terms) sides) sides
 
 -- Withdrawal: none is left, and the volume that stood is answered; refused where no side stands.
-abbrev pub withdraws : (executor side : ℕ) → List (Option QuoteSide) → Result ℕ Fault
-withdraws executor side sides =
-    and_then (read_whose executor side) (λ w. and_then (ok_or (stands w sides) NoSide) (λ s. Ok (total s)))
+abbrev pub withdraws : WhoseFields → List (Option QuoteSide) → Result ℕ Fault
+withdraws f sides =
+    and_then (read_whose f) (λ w. and_then (ok_or (stands w sides) NoSide) (λ s. Ok (total s)))
 
-abbrev pub withdrawn : (executor side : ℕ) → List (Option QuoteSide) → List (Option QuoteSide)
-withdrawn executor side sides =
-    changed (read_whose executor side) (λ w. changed (ok_or (stands w sides) NoSide) (λ _. put w None sides) sides) sides
+abbrev pub withdrawn : WhoseFields → List (Option QuoteSide) → List (Option QuoteSide)
+withdrawn f sides =
+    changed (read_whose f) (λ w. changed (ok_or (stands w sides) NoSide) (λ _. put w None sides) sides) sides
 
 -- Question: displayed and reserve, 0 and 0 where no side stands.
 abbrev pub volumes_of : Option QuoteSide → Volumes
 volumes_of None = record { displayed = 0; reserve = 0 }
 volumes_of (Some s) = volumes s
 
-abbrev pub tells : (executor side : ℕ) → List (Option QuoteSide) → Result Volumes Fault
-tells executor side sides = and_then (read_whose executor side) (λ w. Ok (volumes_of (stands w sides)))
+abbrev pub tells : WhoseFields → List (Option QuoteSide) → Result Volumes Fault
+tells f sides = and_then (read_whose f) (λ w. Ok (volumes_of (stands w sides)))
 
 -- Fill: the side after it is answered and stands; none, and nothing changed, where no side stands or it displays less.
 abbrev pub fills_at : Whose → ℕ → List (Option QuoteSide) → Option QuoteSide
-fills_at w v sides = option_flatten (option_map (fills v) (stands w sides))
+fills_at w v sides = option_and_then (fills v) (stands w sides)
 
 abbrev pub after_fill : Whose → ℕ → List (Option QuoteSide) → List (Option QuoteSide)
-after_fill w v sides = unwrap_or (option_map (λ s. put w (Some s) sides) (fills_at w v sides)) sides
+after_fill w v sides = option_map_or (λ s. put w (Some s) sides) (fills_at w v sides) sides

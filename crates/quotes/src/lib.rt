@@ -1,7 +1,6 @@
 // Executors' quote sides: entry, withdrawal, fill and refill, and what they tell.
 #![tactic(auto)]
 
-mod calls;
 mod entry;
 mod fault;
 mod quote_side;
@@ -10,7 +9,7 @@ mod table;
 #[cfg(test)]
 mod tests;
 
-pub use entry::{Quote, QuoteFields, Whose};
+pub use entry::{Quote, QuoteFields, Whose, WhoseFields};
 pub use fault::{Fault, Field};
 pub use quote_side::{QuoteSide, Volumes};
 pub use refills::worked_refills;

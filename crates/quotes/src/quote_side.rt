@@ -3,8 +3,9 @@ ghost use Rattle.std.specs.Prelude.{◌≡◌, ◌+◌, IfSome};
 ghost use Rattle.quotes.specs.Fills.{fills, refilled, total, volumes};
 ghost use Rattle.quotes.specs.Soundness.{Sound};
 
-// Limits are in whole thousandths of a euro, volumes in shares.
-#[derive(Clone, Copy)]
+// Limits are in whole thousandths of a euro, volumes in shares. That a side is sound stands in contracts and is no ghost field:
+// one would ask a proof of whoever builds a side, and of each definition that makes one.
+#[derive(Clone, Copy, PartialEq, Eq, Debug)]
 pub struct QuoteSide {
     // How much better than the book's average the price is.
     pub relative: u32,
@@ -16,23 +17,25 @@ pub struct QuoteSide {
     pub reserve: u32,
 }
 
-// What the question tells of a side.
-#[derive(Clone, Copy)]
+// What the question tells of a side, by default of none.
+#[derive(Clone, Copy, PartialEq, Eq, Default, Debug)]
 pub struct Volumes {
     pub displayed: u32,
     pub reserve: u32,
 }
 
-impl QuoteSide {
-    pub(crate) fn volumes(self) -> Volumes
-        ensures { result ≡ volumes self }
-    {
+impl From<QuoteSide> for Volumes {
+    ghost from_gives = { λ side told. told ≡ volumes side };
+
+    fn from(side: QuoteSide) -> Volumes {
         Volumes {
-            displayed: self.displayed,
-            reserve: self.reserve,
+            displayed: side.displayed,
+            reserve: side.reserve,
         }
     }
+}
 
+impl QuoteSide {
     // All that stands: displayed and reserve.
     pub fn total(self) -> u64
         ensures { result ≡ total self }

@@ -1,12 +1,16 @@
 // The ends of the fields' ranges, and a side from its entry to its withdrawal.
-use crate::entry::{QuoteFields, Whose};
+use crate::entry::{Quote, QuoteFields, Whose, WhoseFields};
+use crate::fault::{Fault, Field};
 use crate::table::Quotes;
-use book::Side;
+use book::{Code, Side};
+use std::test::Fail;
 
 fn quote(fields: [u64; 6]) -> QuoteFields {
     QuoteFields {
-        executor: fields[0],
-        side: fields[1],
+        whose: WhoseFields {
+            executor: fields[0],
+            side: fields[1],
+        },
         relative: fields[2],
         boundary: fields[3],
         size: fields[4],
@@ -16,9 +20,9 @@ fn quote(fields: [u64; 6]) -> QuoteFields {
 
 // The place of the first field at fault, 0 where none is.
 fn place_at_fault(fields: [u64; 6]) -> u8 {
-    match quote(fields).read() {
+    match Quote::try_from(quote(fields)) {
         Ok(_) => 0,
-        Err(fault) => fault.code().place,
+        Err(fault) => Code::from(fault).place,
     }
 }
 
@@ -50,7 +54,7 @@ fn the_first_field_out_of_range_is_named(rt: HostRuntime) {
 
 // Displayed and reserve.
 fn told(quotes: &Quotes, executor: u64, side: u64) -> Option<(u32, u32)> {
-    let volumes = quotes.tell(executor, side).ok()?;
+    let volumes = quotes.tell(WhoseFields { executor, side }).ok()?;
     Some((volumes.displayed, volumes.reserve))
 }
 
@@ -63,12 +67,23 @@ fn a_side_from_entry_to_withdrawal(rt: HostRuntime) {
         executor: 2,
         side: Side::Ask,
     };
+    let ask_fields = WhoseFields {
+        executor: 2,
+        side: 1,
+    };
     assert_eq!(rt; quotes.fill(ask, 401).is_none(), true);
     assert_eq!(rt; quotes.fill(ask, 150).is_some(), true);
     assert_eq!(rt; told(&quotes, 2, 1), Some((400, 850)));
     assert_eq!(rt; quotes.enter(quote([2, 1, 5, 0, 300, 0])).ok(), Some(1250));
-    assert_eq!(rt; quotes.withdraw(2, 1).ok(), Some(300));
+    assert_eq!(rt; quotes.withdraw(ask_fields).ok(), Some(300));
     assert_eq!(rt; told(&quotes, 2, 1), Some((0, 0)));
-    assert_eq!(rt; quotes.withdraw(2, 1).is_err(), true);
+    assert_eq!(rt; quotes.withdraw(ask_fields).is_err(), true);
     assert_eq!(rt; told(&quotes, 2, 0), Some((70, 7)));
+}
+
+#[test]
+fn a_refusal_is_printed(rt: HostRuntime) -> Result<(), Fail> {
+    let text = format!(in rt.alloc(); "{}", Fault::from(Field::Size))?;
+    assert_eq!(rt; text.as_str(), "refused 1, layer 2, place 5");
+    Ok(())
 }

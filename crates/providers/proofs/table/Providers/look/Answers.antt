@@ -1,17 +1,18 @@
-use Rattle.std.proofs.Common.{Some, sym, ap, ◌∙◌}
-use Rattle.std.proofs.lemmas.List.{get_or-take}
+use Rattle.std.proofs.Common.{sym, ◌∙◌}
+use Rattle.ordered.proofs.Finds.{place_hits, place_misses}
 use Rattle.providers.proofs.Places.{found_nowhere, found_there}
 use Rattle.providers.specs.Held.{held}
+use Rattle.providers.specs.Members.{has_member}
 use Rattle.providers.proofs.table.Providers.look.Goals as goal
 
-pub returns-in_err-place : goal.returns-in_err-place
-returns-in_err-place c =
-    let told = c.in_err-place.ensures.place in
-    c.from_residual.ensures ∙ sym (found_nowhere c.args.member (held c.args.self.now) (sym told))
+pub returns-in_err-find : goal.returns-in_err-find
+returns-in_err-find c =
+    let test = has_member c.args.member in
+    let ps = held c.args.self.now in
+    c.from_residual.ensures ∙ sym (found_nowhere test ps (place_misses test ps (sym c.in_err-find.ensures)))
 
 pub returns : goal.returns
 returns c =
-    let ps = c.args.self.now in
-    let told = c.in_ok-place.ensures in
-    sym (found_there c.args.member (held ps) c.in_ok-place.place _ (sym told.place)
-    ∙ ap Some (get_or-take ps.used ps.slots c.in_ok-place.place _ told.within))
+    let test = has_member c.args.member in
+    let ps = held c.args.self.now in
+    c.get.ensures ∙ sym (found_there test ps c.in_ok-find.field-0 (place_hits test ps c.in_ok-find.field-0 (sym c.in_ok-find.ensures)))

@@ -1,8 +1,8 @@
-use Rattle.std.proofs.Common.{rules}
-use Rattle.quotes.proofs.Sounds.{sound_from_words, sound_set}
+use Rattle.std.proofs.Common.{IfSome}
+use Rattle.std.proofs.lemmas.List.Elements.{All-set}
+use Rattle.quotes.specs.Soundness.{Sound}
 use Rattle.quotes.proofs.table.Quotes.put.Goals as goal
 
-pub invariant_of-self : goal.invariant_of-self
-invariant_of-self c =
-    let sound = sound_set c.args.self.now.sides c.in-Some.place c.args.side (sound_from_words c.args.side c.requires.sound) c.args.self.now.sound in
-    record { long = search rules; sound = sound }
+pub invariant_of-self-clause-sound : goal.invariant_of-self-clause-sound
+invariant_of-self-clause-sound c =
+    All-set (λ side. IfSome side Sound) c.args.self.now.sides c.in-Some.place c.args.side c.requires.sound c.args.self.now.sound

@@ -1,0 +1,10 @@
+pub mod Alike
+pub mod Arrivals
+pub mod Calls
+pub mod Counts
+pub mod Drawn
+pub mod Kept
+pub mod Messages
+pub mod Plain
+pub mod PlainLists
+pub mod Weight

@@ -1,0 +1,3 @@
+mod Lines
+mod Room
+mod Writing

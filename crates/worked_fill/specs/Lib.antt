@@ -1,0 +1,4 @@
+pub mod Text
+pub mod Sample
+pub mod Figures
+pub mod Worked
