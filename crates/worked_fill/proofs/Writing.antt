@@ -1,7 +1,7 @@
 -- A loop that writes the text of a list, order by order.
-use Rattle.std.proofs.Common.{◌≡◌, ℕ, ◌+◌, suc, arith, true, false, inl, inr, ap, filter, List, [], ◌∷◌, ◌++◌, refl, sym, subst, ◌∙◌}
-use Rattle.std.proofs.Output.{has_written_append, has_written_of_eq, writes_in_calls_nil}
-use Rattle.std.proofs.lemmas.List.{append-nil, append_assoc}
+use Rattle.std.proofs.Common.{◌≡◌, ℕ, ◌+◌, suc, arith, true, false, inl, inr, ap, filter, List, [], ◌∷◌, ◌++◌, refl, subst, ◌∙◌}
+use Rattle.std.proofs.Output.{has_written_append, writes_in_calls_nil}
+use Rattle.std.proofs.lemmas.List.{append_assoc}
 use Rattle.std.specs.List.{prefix_len}
 use Rattle.std.proofs.lemmas.Bool.{cases_Bool}
 use Rattle.std.specs.Fmt.{HasWritten, IsPlainFormatter}
