@@ -1,4 +1,5 @@
 pub mod Keeps
 pub mod Masks
+pub mod Numbered
 pub mod Places
 pub mod Stands

@@ -1,7 +1,7 @@
 // The providers, their members in order and each once: what members have agreed, and what is looked up of them.
 ghost use Rattle.std.proofs.Props.{props};
 ghost use Rattle.ordered.specs.Bounded.{items};
-ghost use Rattle.providers.specs.Members.{MembersStandInOrderAndOnce};
+ghost use Rattle.providers.specs.Members.{DefaultsAreNumbered, MembersStandInOrderAndOnce};
 
 use crate::fault::Fault;
 use crate::mask::{agreed, agreements_in};
@@ -14,10 +14,11 @@ const CAPACITY: usize = 64;
 pub struct Providers {
     list: BoundedList<Provider, CAPACITY>,
     ghost order: { MembersStandInOrderAndOnce (items list) } by { Prim.hlevel props },
+    ghost named: { DefaultsAreNumbered (items list) } by { Prim.hlevel props },
 }
 
 impl Providers {
-    ghost use Rattle.std.specs.Prelude.{◌≡◌, ℕ, [], OnErr, Some, Ok, slice_set};
+    ghost use Rattle.std.specs.Prelude.{◌≡◌, ◌≤◌, ℕ, [], IfSome, OnErr, Some, Ok, slice_set};
     ghost use Rattle.providers.specs.Held.{held};
     ghost use Rattle.providers.specs.Keeping.{SetsJustThat};
     ghost use Rattle.providers.specs.Lookups.{agrees, default_of, provider_of};
@@ -39,8 +40,10 @@ impl Providers {
     }
 
     // The default executor of a member.
+    #[tactic(auto, using(crate::proofs::Numbered::found_numbered))]
     pub fn default_of(&self, member: u8) -> Option<u8>
-        ensures { result ≡ default_of member (held self.now) }
+        ensures answer { result ≡ default_of member (held self.now) }
+        ensures named { IfSome result (λ executor. 1 ≤ executor) }
     {
         self.look(member)?.default
     }
@@ -57,7 +60,8 @@ impl Providers {
 
     // Writes a provider over the one of its member.
     fn replace(&mut self, place: usize, provider: Provider)
-        requires { placed provider.member (held self.old) ≡ Some place }
+        requires own { placed provider.member (held self.old) ≡ Some place }
+        requires named { IfSome provider.default (λ executor. 1 ≤ executor) }
         ensures { held self.new ≡ slice_set (held self.old) place provider }
     {
         self.list.set(place, provider);
@@ -65,6 +69,7 @@ impl Providers {
 
     // Has the provider stand in its place, or nowhere if it says nothing.
     fn put(&mut self, provider: Provider) -> Result<u32, Fault>
+        requires { IfSome provider.default (λ executor. 1 ≤ executor) }
         ensures answer { result ≡ puts provider (held self.old) }
         ensures after { held self.new ≡ put provider (held self.old) }
         ensures refused { OnErr result (self.new ≡ self.old) }
