@@ -1,20 +1,14 @@
 -- The calls of a trial, one more at a time.
-use Rattle.std.proofs.Common.{◌≡◌, ◌<◌, ℕ, ◌+◌, List, [], ◌∷◌, ◌++◌, refl, length-append}
+use Rattle.std.proofs.Common.{◌≡◌, ℕ, ◌+◌, List, [], ◌∷◌, ◌++◌, refl, length-append}
 use Rattle.std.specs.List.{AllByRecursion}
 use Rattle.book.proofs.Keeps.{keeps_order}
 use Rattle.book.specs.declared.side.Side.TheVariants.{Bid, Ask}
-use Rattle.booktrial.specs.Alike.{Alike}
 use Rattle.booktrial.specs.Calls.{Lists, after, answered}
 use Rattle.booktrial.specs.Counts.{tallied}
 use Rattle.booktrial.specs.Kept.{InPriority, MakesCalls, lists_after, tally_after}
 use Rattle.booktrial.specs.declared.call.Call.{Call}
 use Rattle.booktrial.specs.declared.call.Call.TheVariants.{Enter, Take, Remove, Find}
 use Rattle.booktrial.specs.declared.tally.Tally.{Tally}
-
--- what a loop over drawn calls keeps: the calls so far, after which all books stand alike
-pub record Going (P : Call → Type 0) (turn : ℕ) (old new plain : Lists) (before now : Tally) : Type 0 where
-  pub made : MakesCalls P turn old new before now
-  pub alike : 0 < turn → Alike plain new
 
 lists_after-more : (cs : List Call) (c : Call) (b : Lists) → lists_after (cs ++ c ∷ []) b ≡ after c (lists_after cs b)
 lists_after-more [] c b = refl

@@ -1,6 +1,7 @@
 -- One side of the plain book: its orders as they came, each of which finds its place by counting.
 use Rattle.std.specs.Prelude.{ℕ, Bool, true, false, cond, not, ◌&&◌, ◌==◌, nat_lt, List, [], ◌∷◌, ◌++◌, map, filter, min, remove, slice_set, Some, None, Ok, Err, Option, Result}
 use Rattle.std.specs.List.{count_by, enumerate_from, find, reduce}
+use Rattle.std.specs.Option.{option_map}
 use Rattle.book.specs.Lists.{fits, has_room, lowered}
 use Rattle.book.specs.Priority.{ahead}
 use Rattle.book.specs.declared.fault.Fault.{Fault}
@@ -19,6 +20,10 @@ place_of s os came o = count_by (λ p. not (p.0 == came) && goes_before s p.1 o 
 -- the order at a place, with when it came
 abbrev pub arrival_at : Side → (place : ℕ) → List Resting → Option (ℕ × Resting)
 arrival_at s place os = find (λ p. place_of s os p.0 p.1 == place) (enumerate_from 0 os)
+
+-- the order at place 0
+abbrev pub first_on : Side → List Resting → Option Resting
+first_on s os = option_map (λ p. p.1) (arrival_at s 0 os)
 
 -- the first place of a number
 abbrev pub place_on : Side → (number : ℕ) → List Resting → Option ℕ

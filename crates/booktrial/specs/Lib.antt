@@ -7,4 +7,6 @@ pub mod Kept
 pub mod Messages
 pub mod Plain
 pub mod PlainLists
+pub mod Standing
+pub mod Turns
 pub mod Weight

@@ -1,7 +1,7 @@
 // One side of the plain book: its orders as they came. An order's place is found by counting those that go before it.
 ghost use Rattle.std.specs.Prelude.{◌≡◌, ◌<◌, [], IfSome, length};
 ghost use Rattle.book.specs.Lists.{enters};
-ghost use Rattle.booktrial.specs.Arrivals.{arrival_at, arrived, goes_before, place_of, place_on, removed_from, taken_from, takes_from, volume_from};
+ghost use Rattle.booktrial.specs.Arrivals.{arrival_at, arrived, first_on, goes_before, place_of, place_on, removed_from, taken_from, takes_from, volume_from};
 
 use arrayvec::ArrayVec;
 use book::{Fault, Resting, Side};
@@ -74,7 +74,9 @@ impl Arrivals {
             .find(|(came, order)| self.place_of(*came, order) == place)
     }
 
-    pub(crate) fn first(&self) -> Option<Resting> {
+    pub(crate) fn first(&self) -> Option<Resting>
+        ensures { result ≡ first_on self.now.side self.now.orders.items }
+    {
         self.at(0).map(|(_, order)| order)
     }
 

@@ -1,6 +1,7 @@
 // Calls that look drawn at random and are the same in every run.
 ghost use Rattle.std.specs.Prelude.{◌≡◌, ◌<◌, ◌≤◌};
-ghost use Rattle.booktrial.specs.Drawn.{below, stepped, IsEnter, IsTakeFrom, MayDraw};
+ghost use Rattle.booktrial.specs.Drawn.{after_steps, any_drawn, below, drawn, enter_drawn, order_drawn, side_drawn, stepped, take_drawn, volume_drawn, IsEnter, IsTakeFrom, MayDraw};
+ghost use Rattle.booktrial.specs.PlainLists.{plain_lists};
 
 use crate::call::Call;
 use crate::plain::Plain;
@@ -42,7 +43,10 @@ impl Draw {
         drawn % end.max(1)
     }
 
-    fn side(&mut self) -> Side {
+    fn side(&mut self) -> Side
+        ensures side { result ≡ side_drawn self.old.state }
+        ensures state { self.new.state ≡ stepped self.old.state }
+    {
         if self.below(2) == 0 {
             Side::Bid
         } else {
@@ -52,6 +56,8 @@ impl Draw {
 
     // Few numbers and few limits, so that orders meet at one limit and numbers come twice.
     fn order(&mut self) -> Resting
+        ensures order { result ≡ order_drawn self.old.state }
+        ensures state { self.new.state ≡ after_steps 4 self.old.state }
         ensures number { (1 ≤ result.number) × (result.number ≤ 40) }
         ensures limit { (54300 ≤ result.limit) × (result.limit ≤ 54410) }
         ensures volume { (1 ≤ result.volume) × (result.volume ≤ 500) }
@@ -66,7 +72,10 @@ impl Draw {
     }
 
     // A volume to take where `first` is the first order: one time in three all of it, one time in eight nothing.
-    fn volume(&mut self, first: Option<Resting>) -> u32 {
+    fn volume(&mut self, first: Option<Resting>) -> u32
+        ensures volume { result ≡ volume_drawn first self.old.state }
+        ensures state { self.new.state ≡ after_steps 3 self.old.state }
+    {
         let drawn = self.below(600);
         let whole = self.below(3) == 0;
         let nothing = self.below(8) == 0;
@@ -78,20 +87,27 @@ impl Draw {
     }
 
     fn enter(&mut self) -> Call
-        ensures { IsEnter result }
+        ensures kind { IsEnter result }
+        ensures call { result ≡ (enter_drawn self.old.state).call }
+        ensures state { self.new.state ≡ (enter_drawn self.old.state).state }
     {
         let side = self.side();
         Call::Enter(side, self.order())
     }
 
     pub(crate) fn take(&mut self, side: Side, plain: &Plain) -> Call
-        ensures { IsTakeFrom side result }
+        ensures kind { IsTakeFrom side result }
+        ensures call { result ≡ (take_drawn side (plain_lists plain.now) self.old.state).call }
+        ensures state { self.new.state ≡ (take_drawn side (plain_lists plain.now) self.old.state).state }
     {
         Call::Take(side, self.volume(plain.first(side)))
     }
 
     // A call of any kind: two in five enter, and the others share the rest. (One `match`: what else is drawn depends on the kind.)
-    fn any(&mut self, plain: &Plain) -> Call {
+    fn any(&mut self, plain: &Plain) -> Call
+        ensures call { result ≡ (any_drawn (plain_lists plain.now) self.old.state).call }
+        ensures state { self.new.state ≡ (any_drawn (plain_lists plain.now) self.old.state).state }
+    {
         match self.below(10) {
             0..=3 => self.enter(),
             4 | 5 => {
@@ -104,7 +120,9 @@ impl Draw {
     }
 
     pub(crate) fn call(&mut self, phase: Phase, plain: &Plain) -> Call
-        ensures { MayDraw phase result }
+        ensures kind { MayDraw phase result }
+        ensures call { result ≡ (drawn phase (plain_lists plain.now) self.old.state).call }
+        ensures state { self.new.state ≡ (drawn phase (plain_lists plain.now) self.old.state).state }
     {
         match phase {
             Phase::Orders => self.enter(),

@@ -18,7 +18,7 @@ pub(crate) struct Plain {
 impl Plain {
     ghost use Rattle.book.specs.Lists.{enters};
     ghost use Rattle.book.specs.Sides.{on};
-    ghost use Rattle.booktrial.specs.Arrivals.{arrival_at, arrived, place_of, taken_from, takes_from};
+    ghost use Rattle.booktrial.specs.Arrivals.{arrival_at, arrived, first_on, place_of, taken_from, takes_from};
     ghost use Rattle.booktrial.specs.Calls.{no_orders, side_of, with_side};
     ghost use Rattle.booktrial.specs.Plain.{after_plainly, answered_plainly, found_plainly, removed_at, removes_at};
     ghost use Rattle.booktrial.specs.PlainLists.{plain_lists};
@@ -56,7 +56,9 @@ impl Plain {
         self.on(side).place_of(came, order)
     }
 
-    pub(crate) fn first(&self, side: Side) -> Option<Resting> {
+    pub(crate) fn first(&self, side: Side) -> Option<Resting>
+        ensures { result ≡ first_on side (side_of side (plain_lists self.now)) }
+    {
         self.on(side).first()
     }
 

@@ -5,12 +5,15 @@ ghost use Rattle.booktrial.specs.Alike.{Alike, AlikeOn};
 ghost use Rattle.booktrial.specs.Arrivals.{place_of};
 ghost use Rattle.booktrial.specs.Calls.{after, answered, no_orders, side_of};
 ghost use Rattle.booktrial.specs.Counts.{no_calls, take_refused, tallied};
-ghost use Rattle.booktrial.specs.Drawn.{MayDraw};
+ghost use Rattle.booktrial.specs.Drawn.{after_steps, MayDraw};
 ghost use Rattle.booktrial.specs.Kept.{Differ, InPriority, MakesCalls, made};
 ghost use Rattle.booktrial.specs.Plain.{after_plainly, answered_plainly};
 ghost use Rattle.booktrial.specs.PlainLists.{plain_lists};
+ghost use Rattle.booktrial.specs.Standing.{standing};
+ghost use Rattle.booktrial.specs.Turns.{Played};
 ghost use Rattle.booktrial.specs.Weight.{book_weight, side_weight, weight_of};
 ghost use Rattle.booktrial.specs.declared.difference.Difference.TheVariants.{AtTurn};
+ghost use Rattle.booktrial.specs.declared.draw.TheConstants.{START};
 
 use crate::call::Call;
 use crate::difference::Difference;
@@ -36,6 +39,8 @@ impl<R: Rivals> Trial<R> {
         ensures books { result.books ≡ books }
         ensures tally { result.tally ≡ no_calls }
         ensures weight { result.weight ≡ 0 }
+        ensures plain { plain_lists result.plain ≡ no_orders }
+        ensures state { result.draw.state ≡ START }
     {
         Trial {
             books,
@@ -91,6 +96,7 @@ impl<R: Rivals> Trial<R> {
     fn alike(&mut self) -> bool
         ensures alike { IsTrue result ↔ Alike (plain_lists self.old.plain) (R.lists self.old.books) }
         ensures weight { self.new ≡ record self.old { weight = if result then (self.old.weight + book_weight (plain_lists self.old.plain)) % 2 ^ 64 else self.old.weight } }
+        ensures nothing { book_weight (plain_lists self.old.plain) ≡ 0 → self.new.weight ≡ self.old.weight }
     {
         let Some(weight) = self.weight() else {
             return false;
@@ -107,6 +113,8 @@ impl<R: Rivals> Trial<R> {
         ensures plain { plain_lists self.new.plain ≡ after_plainly call (plain_lists self.old.plain) }
         ensures tally { self.new.tally ≡ tallied call (answered call (R.lists self.old.books)) self.old.tally }
         ensures weight { self.new.weight ≡ (if result then (self.old.weight + book_weight (plain_lists self.new.plain)) % 2 ^ 64 else self.old.weight) }
+        ensures nothing { book_weight (plain_lists self.new.plain) ≡ 0 → self.new.weight ≡ self.old.weight }
+        ensures state { self.new.draw.state ≡ self.old.draw.state }
     {
         let Some(told) = self.books.call(call) else {
             return false;
@@ -122,6 +130,7 @@ impl<R: Rivals> Trial<R> {
         ensures alike { OnOk result (0 < turns → Alike (plain_lists self.new.plain) (R.lists self.new.books)) }
         ensures differ { OnErr result (Differ (plain_lists self.new.plain) (R.lists self.new.books)) }
         ensures within { IfErr result (λ e. (turn : ℕ) × (turn < turns) × (e ≡ AtTurn phase turn turns)) }
+        ensures stands { Played phase turns result (standing R.Rivals self.old) (standing R.Rivals self.new) }
     {
         for turn in 0..turns {
             let call = self.draw.call(phase, &self.plain);
@@ -140,6 +149,8 @@ impl<R: Rivals> Trial<R> {
         ensures books { R.lists self.new.books ≡ no_orders }
         ensures plain { plain_lists self.new.plain ≡ no_orders }
         ensures tally { self.new.tally ≡ take_refused self.old.tally }
+        ensures weight { self.new.weight ≡ self.old.weight }
+        ensures state { self.new.draw.state ≡ after_steps 3 self.old.draw.state }
     {
         let call = self.draw.take(side, &self.plain);
         self.make(call)
@@ -150,6 +161,9 @@ impl<R: Rivals> Trial<R> {
         ensures alike { result ≡ Ok tt }
         ensures books { R.lists self.new.books ≡ no_orders }
         ensures tally { self.new.tally ≡ take_refused (take_refused self.old.tally) }
+        ensures plain { plain_lists self.new.plain ≡ no_orders }
+        ensures weight { self.new.weight ≡ self.old.weight }
+        ensures state { self.new.draw.state ≡ after_steps 6 self.old.draw.state }
     {
         self.books.empty();
         self.plain.empty();
