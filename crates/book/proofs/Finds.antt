@@ -1,7 +1,7 @@
 -- What find tells of a number.
-use Rattle.std.proofs.Common.{◌≡◌, ℕ, zero, suc, List, [], ◌∷◌, take, Some, None, Ok, Err, Option, Result, refl, ap, subst, arith}
+use Rattle.std.proofs.Common.{◌≡◌, ℕ, zero, suc, List, [], ◌∷◌, take, Some, None, Ok, Err, Option, Result, sym, refl, ap, subst, ◌∙◌, arith}
 use Rattle.std.specs.Option.{option_map}
-use Rattle.std.specs.List.{slice_get}
+use Rattle.std.specs.List.{position_from, slice_get}
 use Rattle.std.proofs.ByRecursion.{All-weaker}
 use Rattle.std.proofs.lemmas.Bool.{eqb-true, eqb-false}
 use Rattle.ordered.proofs.Finds.{Hits, place_hits, place_misses}
@@ -26,9 +26,13 @@ hit_first n [] k h = absurd h
 hit_first n (o ∷ os) zero h = tt
 hit_first n (o ∷ os) (suc k) h = (eqb-false o.number n h.0, hit_first n os k h.1)
 
+-- the place of a number is that of its key
+pub placed_key : (n i : ℕ) (os : List Resting) → placed n i os ≡ position_from (has_number n) i os
+placed_key n i os = refl
+
 -- no order has a number without a place
 none_placed : (n : ℕ) (os : List Resting) → placed n 0 os ≡ None → NoneHas n os
-none_placed n os h = All-weaker _ (λ o. o.number ≡ n → ⊥) (λ o. eqb-false o.number n) os (place_misses (has_number n) os h)
+none_placed n os h = All-weaker _ (λ o. o.number ≡ n → ⊥) (λ o. eqb-false o.number n) os (place_misses (has_number n) os (sym (placed_key n 0 os) ∙ h))
 
 volume_told : (n : ℕ) (x : Option Resting) (e : Fault) → option_map (λ o. o.number) x ≡ Some n → volume_of x ≡ Err e → ⊥
 volume_told n None e h r = grind arith
@@ -46,10 +50,10 @@ module _ (n : ℕ) (bids asks : List Resting) where
 
   told_by : (a b : Option ℕ) (p : Position) → placed n 0 bids ≡ a → placed n 0 asks ≡ b → position a b ≡ Ok p → HasNumber p × IsFirst p
   told_by (Some i) b p ea eb h =
-      let hit = place_hits (has_number n) bids i ea in
+      let hit = place_hits (has_number n) bids i (sym (placed_key n 0 bids) ∙ ea) in
       subst (λ (q : Position). HasNumber q × IsFirst q) (same_position _ p h) (hit_has n bids i hit, (hit_first n bids i hit, λ e. absurd (grind arith)))
   told_by None (Some i) p ea eb h =
-      let hit = place_hits (has_number n) asks i eb in
+      let hit = place_hits (has_number n) asks i (sym (placed_key n 0 asks) ∙ eb) in
       subst (λ (q : Position). HasNumber q × IsFirst q) (same_position _ p h) (hit_has n asks i hit, (hit_first n asks i hit, λ e. none_placed n bids ea))
   told_by None None p ea eb h = absurd (grind arith)
 

@@ -1,10 +1,8 @@
 -- What looking at a place tells of a list.
-use Rattle.std.proofs.Common.{◌≡◌, ℕ, zero, suc, ◌+◌, ◌<◌, ◌≤◌, ◌-◌, List, [], ◌∷◌, length, get_or, drop, slice_range, Some, None, Option, ap, ◌∙◌, inl, inr, arith, rules}
-use Rattle.std.specs.Option.{MatchOption}
+use Rattle.std.proofs.Common.{◌≡◌, ℕ, zero, suc, ◌+◌, ◌<◌, ◌≤◌, List, [], ◌∷◌, length, get_or, drop, Some, None, Option, ap, ◌∙◌, inl, inr, arith, rules}
 use Rattle.std.specs.Iterator.{item_count, MakesProgress, YieldsFirst}
 use Rattle.std.specs.List.{slice_get}
-use Rattle.std.proofs.Math.Seq.{take-nil}
-use Rattle.std.proofs.lemmas.List.{drop_all, drop_more}
+use Rattle.std.proofs.lemmas.List.{drop_more}
 use Rattle.std.proofs.lemmas.Option.{slice_get-get_or, slice_get_past}
 use Rattle.std.proofs.lemmas.Bool.{cases_lt}
 
@@ -23,20 +21,6 @@ pub past_looked : {X : Type 0} (xs : List X) (i : ℕ) → None ≡ slice_get xs
 past_looked [] i e = omega arith
 past_looked (x ∷ xs) zero e = absurd (grind arith)
 past_looked (x ∷ xs) (suc i) e = let ih = past_looked xs i e in omega arith
-
--- of a part of a list, looking at its first place gives its first, and leaves the rest
-pub range_looked : {X : Type 0} (xs : List X) (a b i a' b' : ℕ) (r : Option X) → b' ≡ b → 0 < b - a → i ≡ a → a' ≡ a + 1 → r ≡ slice_get xs i
-    → MatchOption r ((slice_range xs a b ≡ []) × (slice_range xs a' b' ≡ [])) (λ x. slice_range xs a b ≡ x ∷ slice_range xs a' b')
-range_looked xs a b i a' b' None eb some ei ea e =
-    let l : length xs ≤ a = let h = past_looked xs i e in omega arith in
-    let d = drop_all a xs l in
-    let d' = drop_all a' xs (omega arith) in
-    (rw (d, take-nil), rw (d', take-nil))
-range_looked xs a b i a' b' (Some x) eb some ei ea e =
-    let d = drop_looked xs i x e in
-    let n : b - a ≡ suc (b' - a') = omega arith in
-    let a_is : drop a xs ≡ x ∷ drop a' xs = rw (← ei, d, ei, ← ea) in
-    rw (n, a_is)
 
 -- an iterator that gives the first of what is left comes to its end
 pub makes_progress : {S X : Type 0} (rest : S → List X) (s : S) (r : Option X) (t : S) → YieldsFirst rest s r t → MakesProgress (λ (_ : S). Unit {0}) (item_count rest) s r t

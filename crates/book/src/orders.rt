@@ -1,23 +1,25 @@
 // The orders of one side of any book, one by one.
-ghost use Rattle.std.specs.Prelude.{◌≡◌, drop};
-ghost use Rattle.std.specs.List.{slice_get};
-ghost use Rattle.std.specs.Iterator.{YieldsFirst, item_count};
+ghost use Rattle.std.specs.Prelude.{◌^◌, ◌<◌, length};
 ghost use Rattle.book.specs.Listed.{listed};
-ghost use Rattle.book.specs.Reading.{left};
 
 use crate::read::ReadBook;
 use crate::resting::Resting;
 use crate::side::Side;
-use std::ops::Range;
 
+// Looked at place after place, until there is none: so no order is tested against their count too.
 #[derive(Drop)]
-pub struct Orders<'a, B> {
+pub struct Orders<'a, B: ReadBook> {
     book: &'a B,
     side: Side,
-    places: Range<usize>,
+    place: usize,
+    // The place after an order's is a number too.
+    ghost countable: { length (listed B.ReadBook side book.now) < 2 ^ 64 },
 }
 
 impl<'a, B: ReadBook> Orders<'a, B> {
+    ghost use Rattle.std.specs.Prelude.{◌≡◌, drop};
+    ghost use Rattle.book.specs.Reading.{left};
+
     // All orders of a side.
     pub fn of(book: &'a B, side: Side) -> Orders<'a, B>
         ensures { left B.ReadBook result ≡ listed B.ReadBook side book.now }
@@ -29,21 +31,16 @@ impl<'a, B: ReadBook> Orders<'a, B> {
     pub fn from_place(book: &'a B, side: Side, place: usize) -> Orders<'a, B>
         ensures { left B.ReadBook result ≡ drop place (listed B.ReadBook side book.now) }
     {
-        Orders {
-            book,
-            side,
-            places: place..book.count(side),
-        }
-    }
-
-    fn at(&self, place: usize) -> Option<Resting>
-        ensures { result ≡ slice_get (listed B.ReadBook self.now.side self.now.book.now) place }
-    {
-        self.book.look(self.side, place)
+        // For `countable` alone.
+        let _ = book.count(side);
+        Orders { book, side, place }
     }
 }
 
 impl<'a, B: ReadBook> Iterator for Orders<'a, B> {
+    ghost use Rattle.std.specs.Iterator.{YieldsFirst, item_count};
+    ghost use Rattle.book.specs.Reading.{left};
+
     type Item = Resting;
 
     ghost next_gives = { YieldsFirst (left B.ReadBook) };
@@ -51,7 +48,8 @@ impl<'a, B: ReadBook> Iterator for Orders<'a, B> {
     ghost remaining = { item_count (left B.ReadBook) };
 
     fn next(&mut self) -> Option<Resting> {
-        let place = self.places.next()?;
-        self.at(place)
+        let order = self.book.look(self.side, self.place)?;
+        self.place += 1;
+        Some(order)
     }
 }

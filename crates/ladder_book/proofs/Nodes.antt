@@ -5,10 +5,13 @@ use Rattle.std.proofs.Math.ListN.{get_or-map}
 use Rattle.std.proofs.Math.Seq.{map-set_same}
 use Rattle.book.specs.declared.resting.Resting.{Resting}
 use Rattle.ladder_book.specs.declared.level.Node.{Node}
-use Rattle.ladder_book.specs.Queues.{nexts, records, vacant}
+use Rattle.ladder_book.specs.Queues.{at, nexts, records, vacant}
 
 pub next_at : (ps : List Node) (i : ℕ) → (get_or ps i vacant).next ≡ get_or (nexts ps) i 0
 next_at ps i = sym (get_or-map (λ p. p.next) ps i vacant)
+
+pub order_at : (ps : List Node) (i : ℕ) → (get_or ps i vacant).order ≡ at (records ps) i
+order_at ps i = sym (get_or-map (λ p. p.order) ps i vacant)
 
 pub records_set : (ps : List Node) (i : ℕ) (n : Node) → records (set ps i n) ≡ set (records ps) i n.order
 records_set ps i n = map-set (λ p. p.order) ps i n

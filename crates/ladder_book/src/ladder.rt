@@ -7,7 +7,7 @@ ghost use Rattle.book.specs.Priority.{ahead};
 ghost use Rattle.ladder_book.specs.Queues.{at, bare, sign, level_at, queue, ids, ends, nexts, occurs, once, records, book as orders_of, Falls};
 
 use crate::level::{Level, Node, Seat};
-use crate::links::{give_back, lead, lessen, link, places, put};
+use crate::links::{give_back, lead, lessen, link, places, put, set_volume};
 use crate::walk::Walk;
 use book::{Fault, Resting, Side, Sign};
 use ordered::{BoundedList, Ordered};
@@ -22,7 +22,7 @@ pub struct Ladder {
     places: [Node; CAPACITY],
     // The places that hold no order are those from `count` on: a stack that grows down, so that `count` is how many orders
     // there are, and to take a place or give one back can never be refused, as it could by a bounded list.
-    slots: [usize; CAPACITY],
+    slots: [u8; CAPACITY],
     count: usize,
     // The worst level first, so that to take the best out moves none.
     levels: BoundedList<Level, CAPACITY>,
@@ -190,8 +190,7 @@ impl Ladder {
         ensures list { listed self.new ≡ resized volume (listed self.old) }
         ensures side { self.new.side ≡ self.old.side }
     {
-        let first = self.order(seat.place);
-        put(&mut self.places, seat.place, Resting { volume, ..first });
+        set_volume(&mut self.places, seat.place, volume);
     }
 
     // The place that the next order takes.
@@ -200,7 +199,7 @@ impl Ladder {
         ensures is { result ≡ slice_index self.now.slots self.now.count }
         ensures low { result < 128 }
     {
-        self.slots[self.count]
+        self.slots[self.count] as usize
     }
 
     // The seat that an order has by priority in a level's queue, found from the front on.
@@ -341,6 +340,12 @@ impl BookSide for Ladder {
         let order = self.order(seat.place);
         self.unlink(seat);
         Some(order)
+    }
+
+    fn drop_first(&mut self) {
+        if let Some(first) = self.first() {
+            self.unlink(first);
+        }
     }
 
     fn resize_first(&mut self, volume: u32) {

@@ -1,7 +1,7 @@
 // The links of a queue and the levels, changed in their arrays.
 ghost use Rattle.std.specs.Prelude.{◌≡◌, ℕ, ◌+◌, ◌-◌, ◌<◌, ◌≤◌, length, slice_index, slice_set};
 ghost use Rattle.ordered.specs.Bounded.{items};
-ghost use Rattle.ladder_book.specs.Queues.{level_at, nexts, records};
+ghost use Rattle.ladder_book.specs.Queues.{at, level_at, nexts, records};
 ghost use Rattle.ladder_book.specs.Levels.{led, lessened, linked};
 
 use crate::ladder::CAPACITY;
@@ -11,21 +11,22 @@ use ordered::BoundedList;
 use std::array::from_fn;
 
 // Every place, in order.
-pub(crate) fn places() -> [usize; CAPACITY]
+pub(crate) fn places() -> [u8; CAPACITY]
     ensures { (k : ℕ) → k < 128 → slice_index result k ≡ k }
 {
-    from_fn(|place| place)
+    from_fn(|place| place as u8)
 }
 
 // Gives a place back to the free ones, those from `count` on; answers where they begin then.
-pub(crate) fn give_back(slots: &mut [usize], count: usize, place: usize) -> usize
+pub(crate) fn give_back(slots: &mut [u8], count: usize, place: usize) -> usize
+    requires place { place < 128 }
     requires some { 0 < count }
     requires few { count ≤ length slots.old }
     ensures count { result ≡ count - 1 }
     ensures slots { slots.new ≡ slice_set slots.old (count - 1) place }
 {
     let free = count - 1;
-    slots[free] = place;
+    slots[free] = place as u8;
     free
 }
 
@@ -37,6 +38,16 @@ pub(crate) fn put(places: &mut [Node], place: usize, order: Resting)
     ensures next { nexts places.new ≡ nexts places.old }
 {
     places[place].order = order;
+}
+
+// Sets the volume of the order at a place, and writes nothing else.
+#[tactic(auto, using(crate::proofs::Nodes::records_set, crate::proofs::Nodes::nexts_same))]
+pub(crate) fn set_volume(places: &mut [Node], place: usize, volume: u32)
+    requires { place < length places.old }
+    ensures orders { records places.new ≡ slice_set (records places.old) place (record (at (records places.old) place) { volume = volume }) }
+    ensures next { nexts places.new ≡ nexts places.old }
+{
+    places[place].order.volume = volume;
 }
 
 // Leads the last in front of a seat, if there is one, on to a place.

@@ -44,12 +44,21 @@ impl BookSide for Row {
         self.orders.find(number)
     }
 
+    // By a `match`: in each arm the search knows its side when it is compiled, and tests no side at each order that it passes.
     fn enter(&mut self, order: Resting) -> Result<(), Fault> {
-        Ok(self.orders.insert(order, self.side)?)
+        match self.side {
+            Side::Bid => self.orders.insert(order, Side::Bid)?,
+            Side::Ask => self.orders.insert(order, Side::Ask)?,
+        }
+        Ok(())
     }
 
     fn take_out(&mut self, place: usize) -> Option<Resting> {
         self.orders.remove(place)
+    }
+
+    fn drop_first(&mut self) {
+        self.orders.remove(0);
     }
 
     fn resize_first(&mut self, volume: u32) {

@@ -82,7 +82,8 @@ impl<T: Copy, const CAPACITY: usize> BoundedList<T, CAPACITY> {
         }
     }
 
-    // Puts a record into its place by order, before the first that it is ahead of.
+    // Puts a record into its place by order, before the first that it is ahead of. (Inlined, as `insert` of slices is.)
+    #[inline(always)]
     pub fn insert<By: Copy>(&mut self, item: T, by: By) -> Result<(), NoRoom>
     where
         T: Ordered<By>,

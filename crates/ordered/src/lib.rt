@@ -73,7 +73,9 @@ fn slide_out<T: Copy>(slots: &mut [T], used: usize, place: usize)
 // `BoundedList`.
 
 // Puts an item into its place among the first `used` slots, before the first that it is ahead of, and answers how many there
-// are then. None, and no slot changed, where no slot is spare.
+// are then. None, and no slot changed, where no slot is spare. (Inlined, so that what chooses the order, where a caller knows it,
+// is not asked again at each record.)
+#[inline(always)]
 pub fn insert<By: Copy, T: Ordered<By>>(
     slots: &mut [T],
     used: usize,
@@ -112,10 +114,18 @@ pub fn take_out<T: Copy>(slots: &mut [T], used: usize, place: usize) -> Option<u
     Some(used - 1)
 }
 
+// The first of a list with a key.
+fn first_with<K: Copy, T: Keyed<K>>(kept: &[T], key: K) -> Option<usize>
+    ensures answer { result ≡ position_from (T.has key) 0 kept.now }
+    ensures within { IfSome result (λ place. place < length kept.now) }
+{
+    kept.iter().position(|slot| slot.has_key(key))
+}
+
 // The first place of a key among the first `used` slots.
 pub fn find<K: Copy, T: Keyed<K>>(slots: &[T], used: usize, key: K) -> Option<usize>
     ensures answer { result ≡ position_from (T.has key) 0 (take used slots.now) }
     ensures within { IfSome result (λ place. (place < used) × (place < length slots.now)) }
 {
-    slots.iter().take(used).position(|slot| slot.has_key(key))
+    first_with(&slots[..used.min(slots.len())], key)
 }

@@ -47,6 +47,11 @@ pub trait BookSide {
         ensures answer { result ≡ slice_get (orders self.old) place }
         ensures orders { orders self.new ≡ remove (orders self.old) place };
 
+    // Takes the first order out, if there is one. (As `take_out` at place 0, but it answers nothing, and need not look for a place.)
+    fn drop_first(&mut self)
+        ensures own { own self.new ≡ own self.old }
+        ensures orders { orders self.new ≡ remove (orders self.old) 0 };
+
     // Sets the first order's volume, if there is one.
     fn resize_first(&mut self, volume: u32)
         ensures own { own self.new ≡ own self.old }
@@ -64,7 +69,7 @@ pub trait BookSide {
         }
         let rest = first.volume - volume;
         if rest == 0 {
-            self.take_out(0);
+            self.drop_first();
         } else {
             self.resize_first(rest);
         }
