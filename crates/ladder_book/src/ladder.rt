@@ -21,7 +21,8 @@ pub struct Ladder {
     // In fixed memory, linked by their places.
     places: [Node; CAPACITY],
     // The places that hold no order are those from `count` on: a stack that grows down, so that `count` is how many orders
-    // there are, and to take a place or give one back can never be refused, as it could by a bounded list.
+    // there are, and to take a place or give one back can never be refused, as it could by a bounded list. A byte names a place,
+    // which keeps a ladder small to copy.
     slots: [u8; CAPACITY],
     count: usize,
     // The worst level first, so that to take the best out moves none.

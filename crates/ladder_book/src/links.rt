@@ -41,7 +41,7 @@ pub(crate) fn put(places: &mut [Node], place: usize, order: Resting)
 }
 
 // Sets the volume of the order at a place, and writes nothing else.
-#[tactic(auto, using(crate::proofs::Nodes::records_set, crate::proofs::Nodes::nexts_same))]
+#[tactic(auto, using(crate::proofs::Nodes::nexts_same))]
 pub(crate) fn set_volume(places: &mut [Node], place: usize, volume: u32)
     requires { place < length places.old }
     ensures orders { records places.new ≡ slice_set (records places.old) place (record (at (records places.old) place) { volume = volume }) }
