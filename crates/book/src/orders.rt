@@ -18,6 +18,7 @@ pub struct Orders<'a, B: ReadBook> {
 
 impl<'a, B: ReadBook> Orders<'a, B> {
     ghost use Rattle.std.specs.Prelude.{◌≡◌, drop};
+    ghost use Rattle.std.specs.List.{slice_get};
     ghost use Rattle.book.specs.Reading.{left};
 
     // All orders of a side.
@@ -35,6 +36,12 @@ impl<'a, B: ReadBook> Orders<'a, B> {
         let _ = book.count(side);
         Orders { book, side, place }
     }
+
+    fn at(&self, place: usize) -> Option<Resting>
+        ensures { result ≡ slice_get (listed B.ReadBook self.now.side self.now.book.now) place }
+    {
+        self.book.look(self.side, place)
+    }
 }
 
 impl<'a, B: ReadBook> Iterator for Orders<'a, B> {
@@ -48,7 +55,7 @@ impl<'a, B: ReadBook> Iterator for Orders<'a, B> {
     ghost remaining = { item_count (left B.ReadBook) };
 
     fn next(&mut self) -> Option<Resting> {
-        let order = self.book.look(self.side, self.place)?;
+        let order = self.at(self.place)?;
         self.place += 1;
         Some(order)
     }
