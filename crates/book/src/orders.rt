@@ -37,10 +37,11 @@ impl<'a, B: ReadBook> Orders<'a, B> {
         Orders { book, side, place }
     }
 
-    fn at(&self, place: usize) -> Option<Resting>
-        ensures { result ≡ slice_get (listed B.ReadBook self.now.side self.now.book.now) place }
+    // The next order, without going past it.
+    fn peek(&self) -> Option<Resting>
+        ensures { result ≡ slice_get (listed B.ReadBook self.now.side self.now.book.now) self.now.place }
     {
-        self.book.look(self.side, place)
+        self.book.look(self.side, self.place)
     }
 }
 
@@ -55,7 +56,7 @@ impl<'a, B: ReadBook> Iterator for Orders<'a, B> {
     ghost remaining = { item_count (left B.ReadBook) };
 
     fn next(&mut self) -> Option<Resting> {
-        let order = self.at(self.place)?;
+        let order = self.peek()?;
         self.place += 1;
         Some(order)
     }

@@ -123,7 +123,6 @@ fn first_with<K: Copy, T: Keyed<K>>(kept: &[T], key: K) -> Option<usize>
 }
 
 // The first place of a key among the first `used` slots.
-#[tactic(auto, using(std::proofs::lemmas::List::take_min))]
 pub fn find<K: Copy, T: Keyed<K>>(slots: &[T], used: usize, key: K) -> Option<usize>
     ensures answer { result ≡ position_from (T.has key) 0 (take used slots.now) }
     ensures within { IfSome result (λ place. (place < used) × (place < length slots.now)) }
